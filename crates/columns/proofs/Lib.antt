@@ -1,0 +1,4 @@
+pub mod Apart
+pub mod Appends
+pub mod Fields
+pub mod Lines
