@@ -2,7 +2,7 @@
 use columns::LINE_BYTES;
 use columns::OutputLine;
 use columns::Values;
-use script::Command;
+use command::Command;
 use script::Level;
 use script::Line;
 use script::SCRIPT_BYTES;

@@ -1,4 +1,4 @@
-//! Pages, the keys that name them, and counts that never lie.
+//! Pages in memory, the keys that name them, and counts that are exact or say that they ran over.
 pub mod counts;
 pub mod keys;
 pub mod memory;

@@ -14,18 +14,19 @@ use Rattle.std.specs.declared.option.Option.the-variants.{Some, None}
 use Rattle.std.specs.declared.result.Result.{Result}
 use Rattle.std.specs.declared.result.Result.the-variants.{Ok, Err}
 use Rattle.std.specs.shelf.Lists.{All}
-use Rattle.script.specs.Cuts.{pieces}
-use Rattle.script.specs.Numbers.{number-of}
-use Rattle.script.specs.Reading.{Cursor, Read, then, making, field-read, number-from, number, at-most-255, byte, file-page, anonymous-page, byte-write, command, done, whole, read-line}
-use Rattle.script.specs.Texts.{command-letter, file-page-numbers, anonymous-page-numbers, write-numbers, command-numbers, command-text, File-page-fits, Anonymous-page-fits, Write-fits, Command-fits, Exact-reading}
-use Rattle.script.specs.declared.commands.FilePage.{FilePage}
-use Rattle.script.specs.declared.commands.AnonymousPage.{AnonymousPage}
-use Rattle.script.specs.declared.commands.ByteWrite.{ByteWrite}
-use Rattle.script.specs.declared.commands.Command.{Command}
-use Rattle.script.specs.declared.commands.Command.the-variants.{Admit, Leave, ReadFile, ReadAnonymous, WriteFile, WriteAnonymous, Truncate, Release, Sync, Counts}
-use Rattle.script.specs.declared.commands.LineRefusal.{LineRefusal}
+use Rattle.tokens.specs.Cuts.{pieces}
+use Rattle.tokens.specs.Numbers.{number-of}
+use Rattle.script.specs.Reading.{Cursor, Read, then, making, field-read, number-from, number, at-most-255, byte, file-page, anonymous-page, byte-write, command, whole, read-line}
+use Rattle.tokens.specs.Tokens.{some}
+use Rattle.command.specs.Texts.{command-letter, file-page-numbers, anonymous-page-numbers, write-numbers, command-numbers, command-text, File-page-fits, Anonymous-page-fits, Write-fits, Command-fits, Exact-reading}
+use Rattle.command.specs.declared.commands.FilePage.{FilePage}
+use Rattle.command.specs.declared.commands.AnonymousPage.{AnonymousPage}
+use Rattle.command.specs.declared.commands.ByteWrite.{ByteWrite}
+use Rattle.command.specs.declared.commands.Command.{Command}
+use Rattle.command.specs.declared.commands.Command.the-variants.{Admit, Leave, ReadFile, ReadAnonymous, WriteFile, WriteAnonymous, Truncate, Release, Sync, Counts}
+use Rattle.command.specs.declared.commands.LineRefusal.{LineRefusal}
 use Rattle.script.proofs.Glued.{spaced, numbers-only, numbers-back}
-use Rattle.script.proofs.Numerals.{number-back, number-only}
+use Rattle.tokens.proofs.Numerals.{number-back, number-only}
 
 abbrev at : ℕ → List (List ℕ) → Cursor
 at n fs = record { next = n; fields = fs }
@@ -269,14 +270,18 @@ reads-back c h =
     ∙ ap whole (b .1)
 
 -- a command that is all of its line leaves no field
-no-field : (fs : List (List ℕ)) → done fs ≡ true → fs ≡ []
+no-field : (fs : List (List ℕ)) → some fs ≡ false → fs ≡ []
 no-field [] e = refl
 no-field (f ∷ fs) e = let z : _≡_ {A = ℕ} 0 1 = cc in absurd (omega arith)
+
+not-refused : {X : Type 0} (b : Bool) (d : LineRefusal) (x : Result X LineRefusal) (y : X) → cond b (Err d) x ≡ Ok y → (b ≡ false) × (x ≡ Ok y)
+not-refused true d x y e = let z : _≡_ {A = ℕ} 0 1 = cc in absurd (omega arith)
+not-refused false d x y e = (refl, e)
 
 whole-only : (r : Read Command) (c : Command) → whole r ≡ Ok c → (t : Cursor) × (r ≡ Ok (c, t)) × (t .fields ≡ [])
 whole-only (Err d) c e = let z : _≡_ {A = ℕ} 0 1 = cc in absurd (omega arith)
 whole-only (Ok p) c e =
-    let g = granted (done (p .1 .fields)) (Ok (p .0)) _ c e in
+    let g = not-refused (some (p .1 .fields)) _ (Ok (p .0)) c e in
     let same : p .0 ≡ c = cc (g .1) in
     (p .1, ap (λ (d : Command). Ok (d, p .1)) same, no-field (p .1 .fields) (g .0))
 

@@ -15,9 +15,9 @@ use Rattle.std.specs.Text.{asciiDigit}
 use Rattle.std.specs.Written.{decimal}
 use Rattle.std.specs.shelf.Text.{allDigits}
 use Rattle.std.specs.shelf.Lists.{All}
-use Rattle.script.specs.Cuts.{before, pieces, onto}
-use Rattle.script.proofs.Numerals.{decimal-digits}
-use Rattle.script.proofs.Pieces.{pieces-step}
+use Rattle.tokens.specs.Cuts.{before, pieces, onto}
+use Rattle.tokens.proofs.Numerals.{decimal-digits}
+use Rattle.tokens.proofs.Pieces.{pieces-step}
 
 -- numbers, each behind a space
 abbrev pub spaced : List ℕ → List ℕ

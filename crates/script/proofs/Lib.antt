@@ -1,7 +1,4 @@
 pub mod Exact
+pub mod Fields
 pub mod Glued
-pub mod Lexing
-pub mod Numerals
-pub mod Pieces
 pub mod Rows
-pub mod Scans

@@ -14,7 +14,7 @@ use Rattle.std.proofs.shelf.Tests.{cases-lt}
 use Rattle.std.specs.Joined.{joined}
 use Rattle.std.specs.shelf.Lists.{All}
 use Rattle.std.specs.declared.option.Option.the-variants.{Some, None}
-use Rattle.script.specs.Cuts.{before}
+use Rattle.tokens.specs.Cuts.{before}
 use Rattle.script.specs.Lines.{Row, widened, lines-of, with-end, No-feed, All-ended, Lines-law, first-text, level-line, level-or, script-level}
 use Rattle.script.specs.declared.levels.ScriptRefusal.the-variants.{TooLong}
 use Rattle.std.specs.declared.option.Option.{Option}

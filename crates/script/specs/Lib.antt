@@ -1,10 +1,4 @@
 pub mod Cursors
-pub mod Cuts
 pub mod Lines
-pub mod Numbers
 pub mod Reading
-pub mod Refusals
 pub mod Rows
-pub mod Spans
-pub mod Texts
-pub mod Tokens

@@ -1,21 +1,22 @@
 -- What a line stands for.
 use Prim.Native.Nat.{ℕ, _+_}
-use mathlib.Core.Bool.{Bool, true, false, cond}
+use mathlib.Core.Bool.{cond}
 use mathlib.Core.List.{List, [], _∷_}
 use lib.Dec.{eqb, ltb}
 use Rattle.std.specs.declared.option.Option.{Option}
 use Rattle.std.specs.declared.option.Option.the-variants.{Some, None}
 use Rattle.std.specs.declared.result.Result.{Result}
 use Rattle.std.specs.declared.result.Result.the-variants.{Ok, Err}
-use Rattle.script.specs.Cuts.{pieces}
-use Rattle.script.specs.Numbers.{number-of}
-use Rattle.script.specs.declared.commands.FilePage.{FilePage}
-use Rattle.script.specs.declared.commands.AnonymousPage.{AnonymousPage}
-use Rattle.script.specs.declared.commands.ByteWrite.{ByteWrite}
-use Rattle.script.specs.declared.commands.Command.{Command}
-use Rattle.script.specs.declared.commands.Command.the-variants.{Admit, Leave, ReadFile, ReadAnonymous, WriteFile, WriteAnonymous, Truncate, Release, Sync, Counts}
-use Rattle.script.specs.declared.commands.LineRefusal.{LineRefusal}
-use Rattle.script.specs.declared.commands.LineRefusal.the-variants.{UnknownLetter, BadField}
+use Rattle.tokens.specs.Cuts.{pieces}
+use Rattle.tokens.specs.Numbers.{number-of}
+use Rattle.tokens.specs.Tokens.{some}
+use Rattle.command.specs.declared.commands.FilePage.{FilePage}
+use Rattle.command.specs.declared.commands.AnonymousPage.{AnonymousPage}
+use Rattle.command.specs.declared.commands.ByteWrite.{ByteWrite}
+use Rattle.command.specs.declared.commands.Command.{Command}
+use Rattle.command.specs.declared.commands.Command.the-variants.{Admit, Leave, ReadFile, ReadAnonymous, WriteFile, WriteAnonymous, Truncate, Release, Sync, Counts}
+use Rattle.command.specs.declared.commands.LineRefusal.{LineRefusal}
+use Rattle.command.specs.declared.commands.LineRefusal.the-variants.{UnknownLetter, BadField}
 
 -- the fields that are left, and the number of the first of them
 pub record Cursor : Type 0 where
@@ -79,14 +80,9 @@ command c s =
     (cond (eqb c 67) (making (number s) Counts)  -- C
     (Err UnknownLetter))))))))))
 
--- no field is left
-abbrev pub done : List (List ℕ) → Bool
-done [] = true
-done (f ∷ fs) = false
-
--- a command is all of its line
+-- a command is all of its line: no field may be left
 abbrev pub whole : Read Command → Result Command LineRefusal
-whole (Ok p) = cond (done (p .1 .fields)) (Ok (p .0)) (Err (BadField (p .1 .next)))
+whole (Ok p) = cond (some (p .1 .fields)) (Err (BadField (p .1 .next))) (Ok (p .0))
 whole (Err e) = Err e
 
 -- a line: its letter, then a space before each field

@@ -9,12 +9,12 @@ ghost use Rattle.std.specs.Results.{isOk};
 ghost use Rattle.std.specs.declared.result.Result.the-variants.{Err};
 ghost use Rattle.script.specs.Lines.{lines-of, script-level, Lines-law};
 ghost use Rattle.script.specs.Rows.{row, first-row, later-rows};
-use crate::cuts::find;
 use crate::levels::Level;
 use crate::levels::ScriptRefusal;
 use crate::levels::read_level;
 use crate::source::Line;
 use crate::source::Script;
+use tokens::find;
 
 /// The greatest length of a script.
 pub const SCRIPT_BYTES: usize = 65_536;

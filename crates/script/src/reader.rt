@@ -1,5 +1,5 @@
 //! The fields of a line, read as the parts of a command.
-use crate::parts::Tokens;
+use tokens::Tokens;
 
 // The tokens after a line's letter, and the number of the next field, from 1.
 #[derive(Drop)]

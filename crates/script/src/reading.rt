@@ -3,16 +3,15 @@ ghost use Prim.Native.Nat.{ℕ, _+_, _<_, _≤_};
 ghost use mathlib.Core.Bool.{cond};
 ghost use mathlib.Core.Path.{_≡_};
 ghost use Rattle.script.specs.Cursors.{cursor, outcome};
-ghost use Rattle.script.specs.Reading.{number as number-read, byte as byte-read, file-page, anonymous-page, byte-write, command as command-read, done, whole, read-line};
-ghost use Rattle.script.specs.Texts.{Exact-reading};
-use crate::commands::AnonymousPage;
-use crate::commands::ByteWrite;
-use crate::commands::Command;
-use crate::commands::FilePage;
-use crate::commands::LineRefusal;
-use crate::parts::Rest;
-use crate::parts::Tokens;
+ghost use Rattle.script.specs.Reading.{number as number-read, byte as byte-read, file-page, anonymous-page, byte-write, command as command-read, whole, read-line};
+ghost use Rattle.command.specs.Texts.{Exact-reading};
 use crate::reader::Reader;
+use command::AnonymousPage;
+use command::ByteWrite;
+use command::Command;
+use command::FilePage;
+use command::LineRefusal;
+use tokens::Tokens;
 
 impl Reader<'_> {
     // The number that the next field writes.
@@ -113,28 +112,16 @@ impl Reader<'_> {
         }
     }
 
-    // No field is left.
-    fn is_done(&self) -> bool
-        ensures { λ r. ⌜ r ≡ done (cursor (now (self .entry)) .fields) ⌝ }
-    {
-        match self.tokens.rest {
-            Rest::Fields(_) => false,
-            Rest::Line(_) => true,
-            Rest::Nothing => true,
-        }
-    }
-
     // The command with this letter, where no field is left behind it.
     fn whole_command(&mut self, letter: char) -> Result<Command, LineRefusal>
         requires { ⌜ now self .field ≡ 1 ⌝ }
         ensures { λ r. ⌜ r ≡ whole (command-read letter (cursor (now (self .entry)))) ⌝ }
     {
         let command = self.command(letter)?;
-        if self.is_done() {
-            Ok(command)
-        } else {
-            Err(LineRefusal::BadField { field: self.field })
+        if self.tokens.has_fields() {
+            return Err(LineRefusal::BadField { field: self.field });
         }
+        Ok(command)
     }
 }
 

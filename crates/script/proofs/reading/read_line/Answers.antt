@@ -1,8 +1,8 @@
 use mathlib.Core.Path.{_≡_, _∙_}
 use Rattle.script.specs.Reading.{read-line}
-use Rattle.script.specs.Spans.{left}
+use Rattle.tokens.specs.Spans.{left}
 use Rattle.script.proofs.Exact.{exact-reading}
-use Rattle.script.proofs.Pieces.{line-by-letter}
+use Rattle.script.proofs.Fields.{line-by-letter}
 use Rattle.script.proofs.reading.read_line.Needs as need
 
 pub returns-in-Some : need.returns-in-Some

@@ -1,5 +1,5 @@
-use Rattle.script.specs.Spans.{left}
-use Rattle.script.proofs.Pieces.{number-by-token}
+use Rattle.tokens.specs.Spans.{left}
+use Rattle.script.proofs.Fields.{number-by-token}
 use Rattle.script.proofs.reader.Reader.number.Needs as need
 
 pub returns-in-Some : need.returns-in-Some

@@ -1,0 +1,4 @@
+pub mod Lexing
+pub mod Numerals
+pub mod Pieces
+pub mod Scans
