@@ -1,0 +1,12 @@
+pub mod Descents
+pub mod Filing
+pub mod History
+pub mod Keys
+pub mod Links
+pub mod Map
+pub mod Nexts
+pub mod Nodes
+pub mod Refusals
+pub mod Slots
+pub mod Sound
+pub mod View

@@ -1,0 +1,3 @@
+pub mod Divider
+pub mod Piles
+pub mod Quota
