@@ -1,4 +1,6 @@
 //! What every store of pages keeps: the interface, and the backend that keeps nothing.
+#![tactic(auto)]
+
 pub mod interface;
 pub mod law;
 pub mod moves;

@@ -2,6 +2,8 @@
 //!
 //! The clauses `fits` of the private functions say that the numbers which were written fit their types.
 //! `OutputLine::write` needs that of all values to show that no two lines print alike.
+#![tactic(auto)]
+
 ghost use Rattle.std.specs.Prelude.{◌≡◌, ◌*◌, ◌≤◌, ◌++◌, length, drop, decimal};
 ghost use Rattle.std.specs.List.{flat_map, AllByRecursion as All};
 ghost use Rattle.page.specs.Counts.{count_text};

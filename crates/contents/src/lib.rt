@@ -1,4 +1,6 @@
 //! Different pages, each stored once with a count of its users, in memory that is given at making.
+#![tactic(auto)]
+
 mod calls;
 mod pages;
 mod records;

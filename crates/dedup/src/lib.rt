@@ -1,4 +1,6 @@
 //! The deduplicating backend: a list of held pages, of which equal ones are stored once.
+#![tactic(auto)]
+
 pub mod calls;
 pub mod make;
 pub mod pages;

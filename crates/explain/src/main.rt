@@ -1,4 +1,6 @@
 //! Says, line by line, what a script asks for or why it is refused.
+#![tactic(auto)]
+
 use anyhow::anyhow;
 use columns::{LINE_BYTES, OutputLine, Values};
 use command::Command;

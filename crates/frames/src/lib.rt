@@ -1,4 +1,6 @@
 //! A guest's frames: which page is in which frame, which frame a fault takes, and the rule that says so for every guest.
+#![tactic(auto)]
+
 pub mod calls;
 pub mod faults;
 pub(crate) mod hand;

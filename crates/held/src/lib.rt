@@ -1,4 +1,6 @@
 //! The keys of the pages that a store holds, oldest put first. Each has a place of its own while it is held.
+#![tactic(auto)]
+
 mod access;
 mod calls;
 mod held;

@@ -1,4 +1,6 @@
 //! An index of records under 32-bit keys: a radix tree in memory that is given to it, for records of any `Copy` type.
+#![tactic(auto)]
+
 mod access;
 mod calls;
 mod descend;

@@ -1,6 +1,8 @@
 //! Runs one kind of call on an index, so that it can be timed from outside: index_bench KEYS PHASE ROUNDS.
 //! A round of `make` makes the index anew over its memory, one of `file` files every key into a new index, and one of
 //! `remove` takes them out again; `find` and `next` look each key up in one that is filled. Prints only counts.
+#![tactic(auto)]
+
 use anyhow::anyhow;
 use index::{Index, Node, Slot};
 use std::alloc::Global;

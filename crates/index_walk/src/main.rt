@@ -1,5 +1,7 @@
 //! Walks an index and the library's ordered map through the same pseudo-random calls, and compares every answer, the
 //! refusals and the nodes in use. Prints only counts.
+#![tactic(auto)]
+
 ghost use Rattle.std.specs.Prelude.{◌≤◌};
 
 use index::{FileRefusal, Index, Node, Slot};

@@ -1,4 +1,6 @@
 //! Layers that stand on any backend and are backends themselves.
+#![tactic(auto)]
+
 pub mod divider;
 pub mod law;
 pub mod quota;

@@ -1,4 +1,5 @@
 //! Shows the piles of the levels at work: each call, its answer, and what is held.
+#![tactic(auto)]
 
 mod second;
 mod third;

@@ -1,4 +1,6 @@
 //! The local backend: a list of held pages, each at a place of its own in page memory that is given to it.
+#![tactic(auto)]
+
 pub mod calls;
 pub mod make;
 pub mod pages;

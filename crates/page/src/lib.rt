@@ -1,4 +1,6 @@
 //! Pages in memory, the keys that name them, and counts that are exact or say that they ran over.
+#![tactic(auto)]
+
 pub mod counts;
 pub mod keys;
 pub mod memory;

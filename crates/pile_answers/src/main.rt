@@ -1,4 +1,6 @@
 //! Runs every call on a quota over a divider over two backends that keep nothing, and prints each answer.
+#![tactic(auto)]
+
 use backend::{Backend, Nothing, Refusal, move_page};
 use layers::{Divider, Quota};
 use page::{Key, PAGE_BYTES};

@@ -1,4 +1,6 @@
 //! Scripts: their level, their lines, and the command that a line stands for.
+#![tactic(auto)]
+
 pub mod levels;
 mod lines;
 mod reader;

@@ -1,5 +1,7 @@
 //! Walks a store and a plain list of held pages through the same pseudo-random calls, and compares every answer. Prints only
 //! counts.
+#![tactic(auto)]
+
 mod plain;
 
 use backend::{Backend, Refusal};
