@@ -1,7 +1,7 @@
 -- Entries that were divided by a test of their keys: what a key holds, that keys stay apart, and how many pages a pool has.
 use Rattle.std.proofs.Common.{◌≡◌, ℕ, ◌+◌, Bool, true, false, cond, eqb, List, [], ◌∷◌, ◌++◌, Some, None, count_by, filter, Option, sym, refl, ap, ◌∙◌, arith}
 use Rattle.std.proofs.lemmas.List.Sums.{sum_by-cons}
-use Rattle.std.proofs.lemmas.Bool.{both_ways, cond-false, eqb-true, ne_eqb}
+use Rattle.std.proofs.lemmas.Bool.{both_ways, cond-false, ne_eqb}
 use Rattle.std.specs.List.{AllByRecursion as All}
 use Rattle.backend.specs.Meaning.{Apart}
 use Rattle.backend.specs.Rules.{Entry, lookup}

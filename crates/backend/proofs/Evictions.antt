@@ -1,17 +1,16 @@
 -- Pages that leave a list of held pages. Of the page that gives way it is used only that it is ephemeral and held.
-use Rattle.std.proofs.Common.{◌≡◌, ℕ, zero, suc, ◌+◌, ◌^◌, ◌<◌, ◌≤◌, Bool, true, false, cond, not, ◌&&◌, eqb, ltb, ◌⊎◌, List, [], ◌∷◌, ◌++◌, map, length, is_some, Some, None, filter, Option, sym, refl, ap, ◌∙◌, subst, inl, inr, arith}
+use Rattle.std.proofs.Common.{◌≡◌, ℕ, zero, suc, ◌^◌, ◌<◌, ◌≤◌, Bool, true, false, cond, not, ◌&&◌, eqb, ltb, ◌⊎◌, List, [], ◌∷◌, ◌++◌, length, is_some, Some, None, Option, sym, refl, ap, ◌∙◌, inl, inr, arith}
 use Rattle.std.proofs.ByRecursion.{all_kept_by, All-append}
 use Rattle.std.proofs.lemmas.List.{nil_from_length}
 use Rattle.std.proofs.lemmas.List.Sums.{length-filter, count_by-le-length}
 use Rattle.std.proofs.lemmas.Bool.{and_parts, and_from, cond-true, cond-false, eqb-true, eq-eqb, ne_eqb, ltb-true, lt-ltb, not-true, not_from_true, not_from_false, false≢true, true≢false}
 use Rattle.std.specs.List.{AllByRecursion as All}
 use Rattle.page.specs.Keys.{ephemeral}
-use Rattle.backend.specs.ListLaw.{OldestOfPool, GivesWay}
 use Rattle.backend.specs.Listing.{keys_of, without, one, without_any, evicted, evicted_upto, room_made, tidy}
 use Rattle.backend.specs.Meaning.{Apart, Sized}
 use Rattle.backend.specs.Rules.{Entry, lookup}
 use Rattle.backend.specs.Victims.{victim}
-use Rattle.backend.proofs.Entries.{lookup_kept, lookup_left, lookup_first, apart_kept, apart_append}
+use Rattle.backend.proofs.Entries.{lookup_kept, lookup_left, apart_kept, apart_append}
 use Rattle.backend.proofs.Moving.{none_found}
 use Rattle.backend.proofs.Victims.{victim_gives_way}
 
