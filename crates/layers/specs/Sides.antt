@@ -1,5 +1,5 @@
 -- Divider keeps the meaning of the two backends that keep it on its sides.
-use Rattle.std.specs.Prelude.{◌≡◌, ℕ, ◌+◌, ◌*◌, ◌/◌, ◌%◌, ◌^◌, ◌<◌, Bool, true, false, cond, not, ◌&&◌, ◌⊎◌, List, [], ◌++◌, Some, None, count_by, filter, Option, ◌==◌, nat_eq, refl}
+use Rattle.std.specs.Prelude.{◌≡◌, ℕ, ◌+◌, ◌/◌, ◌%◌, ◌^◌, Bool, true, false, cond, not, ◌&&◌, List, [], ◌++◌, Some, None, count_by, filter, ◌==◌, nat_eq, refl}
 use Rattle.std.proofs.Common.{inl, inr, sym, ap, subst, ◌∙◌, add-zero, zero-add}
 use Rattle.std.proofs.Math.Nat.{div-div-eq-div-mul}
 use Rattle.std.proofs.ByRecursion.{All-append, all_kept_by, All-weaker, kept_by_passes}
@@ -12,7 +12,6 @@ use Rattle.page.specs.declared.counts.Count.{Count}
 use Rattle.backend.specs.Meaning.{Meaning, New, Step, PutLaw, GetLaw, DropLaw, Kept, Apart, Sized}
 use Rattle.backend.specs.Rules.{Entry, Rules, Valid, lookup, held, pool_object, pool_pages}
 use Rattle.backend.specs.States.{View, encode, decode}
-use Rattle.backend.specs.declared.refusals.Refusal.{Refusal}
 use Rattle.backend.specs.Codec.{decode_encode}
 use Rattle.layers.specs.Divider.{even_side, odd_side, sides, moved, even, odd, divider_rules}
 use Rattle.backend.proofs.Entries.{lookup_first, lookup_second, lookup_kept, lookup_left, apart_kept, apart_append, count_same, count_none}

@@ -66,7 +66,7 @@ returns-in-default-acquire c =
     let a = c.in-default-acquire.ensures.outcome in
     let lack = dedup_lack (shared_fixed b) (shared_entries b) page in
     let lacks : lack ≡ true =
-    refused_lacks users area noted H b.counted (pages_apart b.contents) (shared_fixed b) page refl c.if-page-ne-PAGE-BYTES.false
+    refused_lacks users area noted H b.counted (pages_apart b.contents) (shared_fixed b) page refl c.if-page-ne-PAGE_BYTES.false
     (omega (arith, count_fits b.held, size_small b.held)) a.2 in
     let back : holdings c.remove.new.self ≡ H = c.remove.ensures.after ∙ (ap (without_key k) e.cases.4 ∙ without_pushed k p H e.cases.0) in
     record {
@@ -102,7 +102,7 @@ returns c =
     let p = c.in-Some.place in
     let i = c.in-Some-acquire.content in
     let page = c.args.page.now in
-    let whole = eq-eqb _ _ c.if-page-ne-PAGE-BYTES.false in
+    let whole = eq-eqb _ _ c.if-page-ne-PAGE_BYTES.false in
     let e = c.in-Some.ensures in
     let a = c.in-Some-acquire.ensures in
     let within : p < length noted = omega (arith, e.cases.2, b.long) in
@@ -116,5 +116,5 @@ returns c =
           ∙ joined_entries users area noted H b.counted (pages_apart b.contents) k p i page _ _ e.cases.3 within a.outcome.1 (a.holds i refl) a.others;
       fixed =
           fixed_same (size_of b.held) (length users) _ _ area _ e.size a.same_size
-          (joined_behind users area noted H b.counted (pages_apart b.contents) k p i page _ _ e.cases.3 within a.outcome.1 c.if-page-ne-PAGE-BYTES.false (size_paged b.contents));
+          (joined_behind users area noted H b.counted (pages_apart b.contents) k p i page _ _ e.cases.3 within a.outcome.1 c.if-page-ne-PAGE_BYTES.false (size_paged b.contents));
     }

@@ -32,7 +32,7 @@ returns-in-default c =
     let f : ℕ → List ℕ = λ q. page_at (contents_area b.contents) (get_or (vec_items b.content_at) q 0) in
     let k = c.args.key.number in
     let out = c.args.out.now in
-    let page = eq-eqb _ _ c.if-out-ne-PAGE-BYTES.false in
+    let page = eq-eqb _ _ c.if-out-ne-PAGE_BYTES.false in
     let e = c.in-default.ensures in
     let none = missed f k (holdings b.held) out (sym e.value) in
     record {
@@ -76,7 +76,7 @@ returns c =
     let k = c.args.key.number in
     let p = c.in-Some.place in
     let out = c.args.out.now in
-    let page = eq-eqb _ _ c.if-out-ne-PAGE-BYTES.false in
+    let page = eq-eqb _ _ c.if-out-ne-PAGE_BYTES.false in
     let e = c.in-Some.ensures in
     let u = c.release.ensures in
     let content = get_or_read_under noted p (length noted) c.index-content.result.now 0 c.index-content.ensures (omega (arith, place_below b.held k p (sym e.value), b.long)) refl in
