@@ -15,8 +15,8 @@ use Rattle.dedup.proofs.Joining.{without_pushed, fixed_same, refused_lacks, join
 use Rattle.dedup.specs.Kept.{lacks_places}
 use Rattle.dedup.proofs.calls.SharedPagesHeldPages.append.Goals as goal
 
-pub returns-in-default : goal.returns-in-default
-returns-in-default c =
+pub returns-in_default : goal.returns-in_default
+returns-in_default c =
     let b = c.args.self.now in
     let noted = vec_items b.content_at in
     let g : ℕ → ℕ = λ q. get_or noted q 0 in
@@ -24,7 +24,7 @@ returns-in-default c =
     let area = contents_area b.contents in
     let H = holdings b.held in
     let page = c.args.page.now in
-    let e = c.in-default.ensures in
+    let e = c.in_default.ensures in
     let lack = dedup_lack (shared_fixed b) (shared_entries b) page in
     let why : (is_some (place_of c.args.key.number H) ≡ true) ⊎ (lack ≡ true) =
     elim e.cases.0 [
@@ -37,22 +37,22 @@ returns-in-default c =
       fixed = fixed_same (size_of b.held) (length users) _ _ area _ e.size refl refl;
     }
 
-pub invariant-of-self-in-default-acquire : goal.invariant-of-self-in-default-acquire
-invariant-of-self-in-default-acquire c =
+pub invariant-of-self-in_default-acquire : goal.invariant-of-self-in_default-acquire
+invariant-of-self-in_default-acquire c =
     let b = c.args.self.now in
     let noted = vec_items b.content_at in
     let k = c.args.key.number in
     let H = holdings b.held in
     let p = c.in-Some.place in
     let e = c.in-Some.ensures in
-    let a = c.in-default-acquire.ensures.outcome in
+    let a = c.in_default-acquire.ensures.outcome in
     let back : holdings c.remove.new.self ≡ H = c.remove.ensures.after ∙ (ap (without_key k) e.cases.4 ∙ without_pushed k p H e.cases.0) in (
       (λ i. ap (λ (us : List ℕ). get_or us i 0) a.0 ∙ (b.counted i ∙ ap (λ (R : List Holding). uses i (contents_by (λ q. get_or noted q 0) R)) (sym back))),
       (b.long ∙ sym (c.remove.ensures.size ∙ e.size), tt),
     )
 
-pub returns-in-default-acquire : goal.returns-in-default-acquire
-returns-in-default-acquire c =
+pub returns-in_default-acquire : goal.returns-in_default-acquire
+returns-in_default-acquire c =
     let b = c.args.self.now in
     let noted = vec_items b.content_at in
     let g : ℕ → ℕ = λ q. get_or noted q 0 in
@@ -63,7 +63,7 @@ returns-in-default-acquire c =
     let p = c.in-Some.place in
     let page = c.args.page.now in
     let e = c.in-Some.ensures in
-    let a = c.in-default-acquire.ensures.outcome in
+    let a = c.in_default-acquire.ensures.outcome in
     let lack = dedup_lack (shared_fixed b) (shared_entries b) page in
     let lacks : lack ≡ true =
     refused_lacks users area noted H b.counted (pages_apart b.contents) (shared_fixed b) page refl c.if-page-ne-PAGE_BYTES.false
