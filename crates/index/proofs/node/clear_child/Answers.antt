@@ -10,10 +10,10 @@ use Rattle.index.proofs.node.clear_child.Goals as goal
 pub returns : goal.returns
 returns c =
     let ns = vec_items c.args.nodes.now in
-    let old : Node = c.index-mut-n.result.now in
+    let old : Node = c.index_mut-n.result.now in
     let v = c.args.nodes.now.ok.0 in
     let l : c.args.node < length ns = omega arith in
-    let e = c.index-mut-n.ensures.value in
+    let e = c.index_mut-n.ensures.value in
     let inside : c.args.step < length old.children = omega arith in
     let m : ℕ = (bit_and old.mask (2 ^ 32 - 1 - (1 * 2 ^ c.args.step) % 2 ^ 32)) in
     let w = written ns c.args.node old l e c.args.step inside 0 m in

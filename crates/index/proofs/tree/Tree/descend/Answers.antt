@@ -22,7 +22,7 @@ pub child-next-requires : goal.child-next-requires
 child-next-requires g c =
     let v = c.args.self.now.nodes.ok.0 in
     let w = at_node c.requires c.loop-height.invariant.1 c.loop-height.height c.args.key c.loop-height.item (omega arith) (omega arith) (omega arith) c.loop-height.invariant.2 in
-    record { node-within = omega arith; step-within = omega arith }
+    record { node_within = omega arith; step_within = omega arith }
 
 pub returns-then-next-eq0 : goal.returns-then-next-eq0
 returns-then-next-eq0 g c =
