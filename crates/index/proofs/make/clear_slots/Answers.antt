@@ -1,4 +1,4 @@
-use Rattle.std.proofs.Common.{◌≡◌, ℕ, ◌<◌, length, vec_items, sym, refl, ap, ◌∙◌, arith}
+use Rattle.std.proofs.Common.{vec_items, arith}
 use Rattle.std.proofs.lemmas.List.{length-map}
 use Rattle.index.proofs.make.clear_slots.Goals as goal
 

@@ -1,9 +1,9 @@
-use Rattle.std.proofs.Common.{◌≡◌, ℕ, ◌-◌, ◌*◌, ◌%◌, ◌^◌, ◌<◌, length, get_or, set, vec_items, sym, refl, ap, ◌∙◌, arith}
-use lib.Bits.{bit_and, bit_or}
+use Rattle.std.proofs.Common.{ℕ, ◌-◌, ◌*◌, ◌%◌, ◌^◌, ◌<◌, length, set, vec_items, ap, arith}
+use lib.Bits.{bit_and}
 use Rattle.std.proofs.lemmas.Nat.{one_shl, pow_below}
 use Rattle.std.proofs.lemmas.List.{get_or-set_same, get_or-set_other}
 use Rattle.index.specs.declared.node.Node.{Node}
-use Rattle.index.proofs.Masks.{agrees_set, agrees_clear}
+use Rattle.index.proofs.Masks.{agrees_clear}
 use Rattle.index.proofs.ChildWrites.{written, masked_after}
 use Rattle.index.proofs.node.clear_child.Goals as goal
 

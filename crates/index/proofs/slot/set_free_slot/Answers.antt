@@ -1,4 +1,4 @@
-use Rattle.std.proofs.Common.{◌≡◌, ◌<◌, length, vec_items, refl, ap, arith}
+use Rattle.std.proofs.Common.{◌<◌, length, vec_items, refl, ap, arith}
 use Rattle.std.proofs.lemmas.List.{length-map}
 use Rattle.index.specs.declared.slot.Head.{Head}
 use Rattle.index.proofs.Heads.{head_here, head_rest, head_field, head_len, head_records}

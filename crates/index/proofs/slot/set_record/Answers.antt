@@ -1,4 +1,4 @@
-use Rattle.std.proofs.Common.{◌≡◌, ◌<◌, length, vec_items, refl, ap, arith}
+use Rattle.std.proofs.Common.{◌<◌, length, vec_items, arith}
 use Rattle.std.proofs.lemmas.List.{length-map}
 use Rattle.index.proofs.Heads.{record_heads, record_set}
 use Rattle.index.proofs.slot.set_record.Goals as goal

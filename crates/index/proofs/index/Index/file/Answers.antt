@@ -1,4 +1,4 @@
-use Rattle.std.proofs.Common.{◌≡◌, cond, length, is_ok, Ok, Err, vec_items, sym, refl, ap, ◌∙◌, arith}
+use Rattle.std.proofs.Common.{◌≡◌, cond, length, is_ok, Err, vec_items, sym, refl, ap, ◌∙◌, arith}
 use Rattle.std.proofs.lemmas.Result.{err_from_is_err_and}
 use Rattle.index.specs.Filing.{nodes_of, slots_of}
 use Rattle.index.specs.Slots.{marks}
@@ -18,7 +18,7 @@ set_record_at-requires g c = let z = c.in_ok-slot.ensures in omega (arith, z.siz
 pub invariant_of-self-2 : goal.invariant_of-self-2
 invariant_of-self-2 g c =
     let s = c.set_record_at.ensures in
-    (∣ whole_kept c.place.new.self c.set_record_at.new.self s.heads s.nodes s.unused s.vacant c.place.ensures.whole ∣₁, tt)
+    record { whole = ∣ whole_kept c.place.new.self c.set_record_at.new.self s.heads s.nodes s.unused s.vacant c.place.ensures.whole ∣₁ }
 
 pub returns : goal.returns
 returns g c =

@@ -1,4 +1,4 @@
-use Rattle.std.proofs.Common.{◌≡◌, Some, sym, ap, ◌∙◌}
+use Rattle.std.proofs.Common.{Some, sym, ap, ◌∙◌}
 use Rattle.index.specs.Sound.{records_of}
 use Rattle.index.proofs.Unique.{kept}
 use Rattle.index.proofs.Meaning.{view_look, view_none, level}

@@ -1,4 +1,4 @@
-use Rattle.std.proofs.Common.{◌≡◌, sym, subst}
+use Rattle.std.proofs.Common.{sym, subst}
 use Rattle.index.specs.Slots.{marks}
 use Rattle.index.specs.Sound.{heads_of, records_of}
 use Rattle.index.proofs.Unique.{kept}

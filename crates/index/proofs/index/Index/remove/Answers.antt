@@ -1,4 +1,4 @@
-use Rattle.std.proofs.Common.{◌≡◌, get_or, Some, sym, refl, ap, ◌∙◌}
+use Rattle.std.proofs.Common.{get_or, Some, sym, ap, ◌∙◌}
 use Rattle.index.specs.Slots.{marks}
 use Rattle.index.specs.Sound.{heads_of, records_of}
 use Rattle.index.proofs.Unique.{kept}
@@ -10,7 +10,7 @@ pub remove-requires : goal.remove-requires
 remove-requires g c = kept c.args.self.now.whole
 
 pub invariant_of-self : goal.invariant_of-self
-invariant_of-self g c = (∣ c.remove.ensures.whole ∣₁, tt)
+invariant_of-self g c = record { whole = ∣ c.remove.ensures.whole ∣₁ }
 
 pub returns : goal.returns
 returns g c =

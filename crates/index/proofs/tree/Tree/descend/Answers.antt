@@ -1,9 +1,4 @@
-use Rattle.std.proofs.Common.{◌≡◌, ℕ, zero, suc, ◌+◌, ◌-◌, ◌%◌, ◌^◌, ◌<◌, ◌≤◌, length, vec_items, vec_len, sym, refl, ap, ◌∙◌, subst, arith, rules}
-use lib.Bits.{bit_and}
-use Rattle.std.proofs.lemmas.Nat.{and_mask}
-use Rattle.index.specs.Links.{up}
-use Rattle.index.specs.Nodes.{child_in}
-use Rattle.index.specs.Sound.{path_at}
+use Rattle.std.proofs.Common.{◌≡◌, ◌-◌, refl, arith}
 use Rattle.index.proofs.Descending.{at_node, next_step}
 use Rattle.index.proofs.tree.Tree.descend.Goals as goal
 

@@ -1,7 +1,6 @@
-use Rattle.std.proofs.Common.{◌≡◌, ℕ, suc, ◌+◌, ◌-◌, ◌/◌, ◌%◌, ◌^◌, ◌<◌, ◌≤◌, true, length, vec_items, vec_len, sym, refl, ap, ◌∙◌, subst, arith}
-use Rattle.index.specs.Nexts.{Scan, Ahead}
-use Rattle.index.specs.Nodes.{child_in, path_in, parent_in}
-use Rattle.index.specs.Slots.{marks, mark_in}
+use Rattle.std.proofs.Common.{◌≡◌, suc, ◌-◌, ◌<◌, length, vec_items, sym, refl, ◌∙◌, subst, arith}
+use Rattle.index.specs.Nexts.{Ahead}
+use Rattle.index.specs.Slots.{marks}
 use Rattle.index.specs.Sound.{heads_of}
 use Rattle.index.proofs.Below.{end_found, marks_at}
 use Rattle.index.proofs.Keys.{filed_has}

@@ -1,10 +1,10 @@
-use Rattle.std.proofs.Common.{◌≡◌, ℕ, ◌+◌, ◌/◌, ◌%◌, ◌^◌, ◌<◌, length, vec_items, vec_len, sym, refl, ap, ◌∙◌, subst, ⊎_elim, arith}
+use Rattle.std.proofs.Common.{◌≡◌, ◌+◌, ◌%◌, ◌^◌, vec_items, sym, refl, ap, ◌∙◌, subst, ⊎_elim, arith}
 use Rattle.std.proofs.lemmas.Bool.{cases_eq}
-use Rattle.index.specs.Nodes.{child_in, path_in, parent_in}
+use Rattle.index.specs.Nodes.{child_in, path_in}
 use Rattle.index.specs.Slots.{mark_in, slot_parent_in}
 use Rattle.index.specs.Sound.{SoundIn}
 use Rattle.index.specs.Sound.{heads_of}
-use Rattle.index.specs.Slots.{heads, records}
+use Rattle.index.specs.Slots.{heads}
 use Rattle.index.proofs.Freeing.{SlotFreed, slot_freed, at_parent, slot_left}
 use Rattle.index.proofs.tree.Tree.free_slot.Goals as goal
 

@@ -1,9 +1,8 @@
-use Rattle.std.proofs.Common.{◌≡◌, ℕ, suc, ◌+◌, ◌-◌, ◌/◌, ◌%◌, ◌^◌, ◌<◌, ◌≤◌, length, vec_items, vec_len, sym, refl, ap, ◌∙◌, subst, arith}
+use Rattle.std.proofs.Common.{◌≡◌, suc, ◌+◌, ◌-◌, ◌%◌, ◌<◌, vec_items, sym, ap, ◌∙◌, subst, arith}
 use lib.Bits.{bit_and}
 use Rattle.std.proofs.lemmas.Nat.{and_mask}
-use Rattle.index.specs.Links.{up}
 use Rattle.index.specs.Nexts.{Scan, Ahead}
-use Rattle.index.specs.Nodes.{child_in, path_in, parent_in}
+use Rattle.index.specs.Nodes.{child_in, path_in}
 use Rattle.index.specs.Descents.{Descended}
 use Rattle.index.specs.Sound.{heads_of}
 use Rattle.index.proofs.Scans.{scan_start, scan_up, scan_end, scan_found}

@@ -1,7 +1,7 @@
-use Rattle.std.proofs.Common.{◌≡◌, ℕ, zero, suc, ◌+◌, ◌-◌, ◌*◌, ◌%◌, ◌^◌, ◌<◌, ◌≤◌, length, set, vec_items, vec_len, sym, refl, ap, ◌∙◌, subst, arith, rules}
+use Rattle.std.proofs.Common.{◌≡◌, suc, ◌+◌, ◌-◌, ◌%◌, ◌^◌, ◌<◌, length, set, vec_items, sym, refl, ap, ◌∙◌, subst, arith}
 use Rattle.index.specs.Links.{up}
 use Rattle.index.specs.Slots.{marks, mark_in}
-use Rattle.index.specs.Nodes.{child_in, path_in}
+use Rattle.index.specs.Nodes.{child_in}
 use Rattle.index.specs.Sound.{heads_of}
 use Rattle.index.specs.Slots.{heads, records}
 use Rattle.index.proofs.Steps.{up_small, up_big}

@@ -1,6 +1,6 @@
-use Rattle.std.proofs.Common.{◌≡◌, ℕ, suc, ◌+◌, ◌-◌, ◌/◌, ◌%◌, ◌^◌, ◌<◌, ◌≤◌, ◌⊎◌, length, set, vec_items, vec_len, sym, refl, ap, ◌∙◌, subst, inl, inr, arith}
+use Rattle.std.proofs.Common.{◌≡◌, suc, ◌+◌, ◌-◌, ◌/◌, ◌%◌, ◌^◌, length, vec_items, sym, refl, ap, ◌∙◌, inl, inr, arith}
 use Rattle.index.specs.Links.{up}
-use Rattle.index.specs.Nodes.{child_in, path_in}
+use Rattle.index.specs.Nodes.{child_in}
 use Rattle.index.specs.Slots.{marks, mark_in}
 use Rattle.index.specs.Sound.{heads_of}
 use Rattle.index.specs.Slots.{heads, records}

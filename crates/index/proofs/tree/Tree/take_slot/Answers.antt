@@ -1,7 +1,7 @@
-use Rattle.std.proofs.Common.{◌≡◌, ℕ, zero, suc, ◌+◌, ◌-◌, ◌*◌, ◌%◌, ◌^◌, ◌<◌, ◌≤◌, length, vec_items, vec_len, sym, refl, ap, ◌∙◌, subst, arith, rules}
-use Rattle.index.specs.Nodes.{child_in, path_in}
+use Rattle.std.proofs.Common.{◌≡◌, suc, ◌+◌, ◌-◌, ◌%◌, ◌^◌, length, vec_items, sym, refl, ap, ◌∙◌, arith}
+use Rattle.index.specs.Nodes.{child_in}
 use Rattle.index.specs.Sound.{heads_of}
-use Rattle.index.specs.Slots.{heads, records}
+use Rattle.index.specs.Slots.{heads}
 use Rattle.index.proofs.Adding.{SlotTaken, slot_taken}
 use Rattle.index.proofs.tree.Tree.take_slot.Goals as goal
 
