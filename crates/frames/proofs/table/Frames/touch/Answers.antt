@@ -2,7 +2,7 @@ use Rattle.std.proofs.Common.{◌≡◌, true, false, ◌||◌, get_or, set, Non
 use Rattle.std.proofs.lemmas.Bool.{cond-true}
 use Rattle.frames.specs.Clock.{filled, hit}
 use Rattle.frames.specs.Held.{blank, clock, dirties, frames_of, hit_dirty, is_write}
-use Rattle.frames.specs.States.{after_event, dirty, event_of, held}
+use Rattle.frames.specs.States.{after_event, event_of, held}
 use Rattle.frames.proofs.Views.{clock_set, dirties_set, dirty_accessed, dirty_seen, held_accessed, marked_accessed, page_seen, pages_same, some_filled}
 use Rattle.frames.proofs.table.Frames.touch.Goals as goal
 
