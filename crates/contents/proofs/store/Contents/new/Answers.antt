@@ -20,4 +20,4 @@ invariant_of-result c =
     let paged : n ≤ pages_in area = omega arith in
     let long = ap length u ∙ length-replicate n 0 in
     let level : length (fingerprints_in rs) ≡ n = omega (arith, length_users rs, length_fingerprints rs) in
-    (∣ rw u (whole_none n (fingerprints_in rs) area few paged level) ∣₁, tt)
+    record { whole = ∣ rw u (whole_none n (fingerprints_in rs) area few paged level) ∣₁ }

@@ -1,4 +1,4 @@
-use Rattle.std.proofs.Common.{◌-◌, ◌≤◌, get_or, refl, arith}
+use Rattle.std.proofs.Common.{◌≤◌, get_or, refl, arith}
 use Rattle.contents.specs.View.{users_of}
 use Rattle.contents.proofs.Facts.{size_is, whole_of}
 use Rattle.contents.proofs.InUse.{used_within, in_use_freed}
@@ -26,11 +26,11 @@ invariant_of-self c =
     let self = c.args.self.now in
     let e = c.set_users.ensures in
     let used : 1 ≤ get_or (users_of self) c.args.content 0 = omega arith in
-    (∣ rw (e.users, e.fingerprints) (whole_freed (whole_of self) c.args.content used _ (omega arith)) ∣₁, tt)
+    record { whole = ∣ rw (e.users, e.fingerprints) (whole_freed (whole_of self) c.args.content used _ (omega arith)) ∣₁ }
 
 pub invariant_of-self-else-users-eq1 : goal.invariant_of-self-else-users-eq1
 invariant_of-self-else-users-eq1 c =
     let self = c.args.self.now in
     let e = c.set_users.ensures in
     let used : 1 ≤ get_or (users_of self) c.args.content 0 = omega arith in
-    (∣ rw (e.users, e.fingerprints) (whole_shared (whole_of self) c.args.content used _ (omega arith)) ∣₁, tt)
+    record { whole = ∣ rw (e.users, e.fingerprints) (whole_shared (whole_of self) c.args.content used _ (omega arith)) ∣₁ }

@@ -14,4 +14,4 @@ pub invariant_of-self : goal.invariant_of-self
 invariant_of-self c =
     let self = c.args.self.now in
     let e = c.set_users.ensures in
-    (∣ rw (e.users, e.fingerprints) (whole_shared (whole_of self) c.args.content c.requires _ (omega arith)) ∣₁, tt)
+    record { whole = ∣ rw (e.users, e.fingerprints) (whole_shared (whole_of self) c.args.content c.requires _ (omega arith)) ∣₁ }

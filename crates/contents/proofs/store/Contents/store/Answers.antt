@@ -43,7 +43,7 @@ invariant_of-self c =
     let page = c.args.page.now in
     let h : (i < length (users_of self)) × (get_or (users_of self) i 0 ≡ 0) = rw c.deref.ensures.value at c.in-Some.ensures in
     let e = c.set_first_user.ensures in
-    (∣ rw (e.users, e.fingerprints, c.write_page.ensures, c.requires.print) (whole_stored (whole_of self) page i h.0 h.1 c.requires.absent c.requires.whole) ∣₁, tt)
+    record { whole = ∣ rw (e.users, e.fingerprints, c.write_page.ensures, c.requires.print) (whole_stored (whole_of self) page i h.0 h.1 c.requires.absent c.requires.whole) ∣₁ }
 
 pub returns : goal.returns
 returns c =
