@@ -1,9 +1,8 @@
 -- Pages at the places of held keys.
-use Rattle.std.specs.Prelude.{◌≡◌, ℕ, ◌+◌, ◌*◌, ◌/◌, ◌<◌, ◌≤◌, Bool, true, false, cond, ◌⊎◌, List, [], ◌∷◌, ◌++◌, length, drop, is_some, is_ok, Some, Ok, Err, Option, Result, ◌==◌, ◌≢◌, nat_le, refl}
-use Rattle.std.proofs.Common.{inl, inr, sym, ap, subst, ◌∙◌, arith}
+use Rattle.std.specs.Prelude.{◌≡◌, ℕ, ◌<◌, ◌≤◌, Bool, true, false, cond, ◌⊎◌, List, [], ◌∷◌, ◌++◌, length, drop, is_some, is_ok, Some, Ok, Err, Result, ◌==◌, ◌≢◌, nat_le}
+use Rattle.std.proofs.Common.{inl, inr, sym, ap, ◌∙◌, arith}
 use Rattle.std.proofs.ByRecursion.{All-weaker}
 use Rattle.std.proofs.lemmas.Bool.{cond-true, eqb-true, le-leb, lt-leb, lt-ltb}
-use Rattle.std.specs.List.{AllByRecursion}
 use Rattle.page.specs.Memory.{pages_in, start_of, page_at, OthersKept, put_page, outcome, whole_page}
 use Rattle.page.specs.declared.memory.PageRefusal.{PageRefusal}
 use Rattle.page.specs.declared.memory.PageRefusal.TheVariants.{BadLength}
@@ -14,7 +13,6 @@ use Rattle.backend.specs.Outcomes.{is_page}
 use Rattle.backend.specs.Rules.{Entry}
 use Rattle.held.specs.Entries.{entries_by}
 use Rattle.held.specs.Holdings.{Holding, taken, place_of, Pushed}
-use Rattle.held.specs.Rings.{Absent}
 use Rattle.held.specs.View.{holdings, size_of}
 use Rattle.held.specs.declared.held.Held.{Held}
 use Rattle.held.proofs.Entries.{push_entries, length_entries, same_entries, tidy_entries, met, not_joined, may_join}

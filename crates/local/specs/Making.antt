@@ -1,5 +1,5 @@
 -- A new local backend.
-use Rattle.std.specs.Prelude.{◌≡◌, ℕ, List, [], length}
+use Rattle.std.specs.Prelude.{◌≡◌, ℕ, List, length}
 use Rattle.page.specs.Memory.{area_of}
 use Rattle.backend.specs.Listing.{list_rules}
 use Rattle.backend.specs.Meaning.{New}
