@@ -1,7 +1,7 @@
 -- Reading a line undoes writing a command, and only a command's text reads as that command.
 use Rattle.std.proofs.Common.{◌≡◌, ℕ, ◌+◌, ◌^◌, ◌<◌, Bool, true, false, cond, eqb, ltb, List, [], ◌∷◌, ◌++◌, map, Some, None, Ok, Err, decimal, Option, Result, sym, refl, ap, ◌∙◌, subst, arith, ltb-true, lt-ltb, eqb-true}
 use Rattle.std.proofs.lemmas.List.{append_assoc, append-nil, map-append}
-use Rattle.std.specs.List.{flat_map, AllByRecursion as All}
+use Rattle.std.specs.List.{AllByRecursion as All}
 use Rattle.tokens.specs.Cuts.{pieces}
 use Rattle.tokens.specs.Numbers.{number_of}
 use Rattle.script.specs.Reading.{Cursor, Read, then, making, field_read, number_from, number, at_most_255, byte, file_page, anonymous_page, byte_write, command, whole, read_line}

@@ -1,5 +1,5 @@
 -- The lines of a script, over plain lists.
-use Rattle.std.proofs.Common.{◌≡◌, ℕ, suc, ◌+◌, ◌-◌, ◌<◌, ◌≤◌, min, Bool, true, false, cond, not, eqb, ltb, List, [], ◌∷◌, ◌++◌, length, take, drop, Some, None, Err, Option, sym, refl, ap, ◌∙◌, inl, inr, add-one, one-add, arith, length-drop, length-take, lt-ltb, eqb-true, le-leb}
+use Rattle.std.proofs.Common.{◌≡◌, ℕ, suc, ◌+◌, ◌-◌, ◌<◌, ◌≤◌, min, Bool, true, false, cond, not, eqb, ltb, List, [], ◌∷◌, length, take, drop, Some, Err, Option, sym, refl, ap, ◌∙◌, inl, inr, add-one, one-add, arith, length-drop, length-take, lt-ltb, eqb-true, le-leb}
 use Prim.Native.Nat.compare
 use borrow.Author.Tests.{lt-leb, eqb-false}
 use Rattle.std.proofs.lemmas.List.{take_rest, nil_from_length, drop_all}
