@@ -1,8 +1,8 @@
 -- Entries that were divided by a test of their keys: what a key holds, that keys stay apart, and how many pages a pool has.
 use Rattle.std.proofs.Common.{◌≡◌, ℕ, ◌+◌, Bool, true, false, cond, eqb, List, [], ◌∷◌, ◌++◌, Some, None, count_by, filter, Option, sym, refl, ap, ◌∙◌, arith}
 use Rattle.std.proofs.lemmas.List.Sums.{sum_by-cons}
-use Rattle.std.proofs.lemmas.Bool.{both_ways, cond-false, eqb-true, ne_eqb}
-use Rattle.std.specs.List.{AllByRecursion as All}
+use Rattle.std.proofs.lemmas.Bool.{both_ways, cond-false, ne_eqb}
+use Rattle.std.specs.List.{AllByRecursion}
 use Rattle.backend.specs.Meaning.{Apart}
 use Rattle.backend.specs.Rules.{Entry, lookup}
 
@@ -61,7 +61,7 @@ module _ (q : ℕ → Bool) where
       apart_head e (filter by_key es) (still_none e.key es (q e.key) refl h.0) (apart_kept es h.1) (q e.key)
 
 -- keys that the second list lacks stay apart from it
-pub apart_append : (xs ys : List Entry) → Apart xs → Apart ys → All (λ e. lookup e.key ys ≡ None) xs → Apart (xs ++ ys)
+pub apart_append : (xs ys : List Entry) → Apart xs → Apart ys → AllByRecursion (λ e. lookup e.key ys ≡ None) xs → Apart (xs ++ ys)
 apart_append [] ys h i none = i
 apart_append (e ∷ xs) ys h i none =
     (lookup_first e.key xs ys none.0 ∙ h.0, apart_append xs ys h.1 i none.1)

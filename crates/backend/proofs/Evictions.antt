@@ -1,17 +1,16 @@
 -- Pages that leave a list of held pages. Of the page that gives way it is used only that it is ephemeral and held.
-use Rattle.std.proofs.Common.{◌≡◌, ℕ, zero, suc, ◌+◌, ◌^◌, ◌<◌, ◌≤◌, Bool, true, false, cond, not, ◌&&◌, eqb, ltb, ◌⊎◌, List, [], ◌∷◌, ◌++◌, map, length, is_some, Some, None, filter, Option, sym, refl, ap, ◌∙◌, subst, inl, inr, arith}
+use Rattle.std.proofs.Common.{◌≡◌, ℕ, zero, suc, ◌^◌, ◌<◌, ◌≤◌, Bool, true, false, cond, not, ◌&&◌, eqb, ltb, ◌⊎◌, List, [], ◌∷◌, ◌++◌, length, is_some, Some, None, Option, sym, refl, ap, ◌∙◌, inl, inr, arith}
 use Rattle.std.proofs.ByRecursion.{all_kept_by, All-append}
 use Rattle.std.proofs.lemmas.List.{nil_from_length}
 use Rattle.std.proofs.lemmas.List.Sums.{length-filter, count_by-le-length}
 use Rattle.std.proofs.lemmas.Bool.{and_parts, and_from, cond-true, cond-false, eqb-true, eq-eqb, ne_eqb, ltb-true, lt-ltb, not-true, not_from_true, not_from_false, false≢true, true≢false}
-use Rattle.std.specs.List.{AllByRecursion as All}
+use Rattle.std.specs.List.{AllByRecursion}
 use Rattle.page.specs.Keys.{ephemeral}
-use Rattle.backend.specs.ListLaw.{OldestOfPool, GivesWay}
 use Rattle.backend.specs.Listing.{keys_of, without, one, without_any, evicted, evicted_upto, room_made, tidy}
 use Rattle.backend.specs.Meaning.{Apart, Sized}
 use Rattle.backend.specs.Rules.{Entry, lookup}
 use Rattle.backend.specs.Victims.{victim}
-use Rattle.backend.proofs.Entries.{lookup_kept, lookup_left, lookup_first, apart_kept, apart_append}
+use Rattle.backend.proofs.Entries.{lookup_kept, lookup_left, apart_kept, apart_append}
 use Rattle.backend.proofs.Moving.{none_found}
 use Rattle.backend.proofs.Victims.{victim_gives_way}
 
@@ -30,7 +29,7 @@ tidy_apart (e ∷ es) h =
     let q = and_parts _ _ (and_parts (ltb e.key (2 ^ 32)) (eqb (length e.page) 256 && tidy es) p.1).1 in
     (none_found _ (not-true _ p.0), tidy_apart es q.1)
 
-pub tidy_sized : (es : List Entry) → tidy es ≡ true → All Sized es
+pub tidy_sized : (es : List Entry) → tidy es ≡ true → AllByRecursion Sized es
 tidy_sized [] h = tt
 tidy_sized (e ∷ es) h =
     let p = and_parts (not (is_some (lookup e.key es))) (ltb e.key (2 ^ 32) && (eqb (length e.page) 256 && tidy es)) h in
@@ -38,7 +37,7 @@ tidy_sized (e ∷ es) h =
     let q = and_parts _ _ r.1 in
     ((ltb-true _ _ r.0, eqb-true _ _ q.0), tidy_sized es q.1)
 
-pub tidy_from : (es : List Entry) → Apart es → All Sized es → tidy es ≡ true
+pub tidy_from : (es : List Entry) → Apart es → AllByRecursion Sized es → tidy es ≡ true
 tidy_from [] a s = refl
 tidy_from (e ∷ es) a s =
     and_from _ _ (ap (λ (o : Option (List ℕ)). not (is_some o)) a.0)
@@ -54,7 +53,7 @@ absent_head : (k : ℕ) (p : List ℕ) (e : Entry) (o : Option (List ℕ)) (b : 
 absent_head k p e o true t n = let z : ◌≡◌ {A = ℕ} 0 1 = cc in absurd (omega arith)
 absent_head k p e o false t n = (n, cond-false (eqb k e.key) _ _ (ne_eqb _ _ (λ same. true≢false (sym (eq-eqb _ _ (sym same)) ∙ t))))
 
-absent_all : (k : ℕ) (p : List ℕ) (es : List Entry) → lookup k es ≡ None → All (λ e. lookup e.key (record { key = k; page = p } ∷ []) ≡ None) es
+absent_all : (k : ℕ) (p : List ℕ) (es : List Entry) → lookup k es ≡ None → AllByRecursion (λ e. lookup e.key (record { key = k; page = p } ∷ []) ≡ None) es
 absent_all k p [] h = tt
 absent_all k p (e ∷ es) h =
     let r = absent_head k p e (lookup k es) (eqb e.key k) refl h in

@@ -1,16 +1,14 @@
 -- The list of held pages keeps the interface's meaning, whatever lacks a place.
-use Rattle.std.proofs.Common.{◌≡◌, ℕ, zero, suc, ◌^◌, ◌<◌, Bool, true, false, cond, eqb, ◌⊎◌, List, [], ◌∷◌, ◌++◌, length, Some, None, Option, sym, refl, ap, ◌∙◌, subst, inl, inr, arith}
+use Rattle.std.proofs.Common.{◌≡◌, ℕ, ◌^◌, ◌<◌, Bool, true, false, cond, eqb, ◌⊎◌, List, [], ◌∷◌, ◌++◌, length, Some, None, sym, refl, ap, ◌∙◌, subst, inl, inr, arith}
 use Rattle.std.proofs.lemmas.List.{take_at, drop_at}
 use Rattle.std.proofs.lemmas.Bool.{cond-true, cond-false, eq-eqb, eqb-true, true≢false}
 use Rattle.page.specs.Counts.{one_more}
 use Rattle.page.specs.Keys.{ephemeral}
 use Rattle.page.specs.declared.counts.Count.{Count}
 use Rattle.backend.specs.ListLaw.{ListLaw}
-use Rattle.backend.specs.Listing.{ListState, flat, entries_from, read_state, write_state, without, one, room_made, cleared, joined_if, put_entries, got_entries, in_object, in_pool, tidy, relisted, listed, lacking, no_place, list_rules}
-use Rattle.backend.specs.Meaning.{Kept, Step, PutLaw, GetLaw, DropLaw, Meaning}
-use Rattle.backend.specs.Rules.{Entry, Rules, Valid, lookup, held}
-use Rattle.backend.specs.States.{View}
-use Rattle.backend.specs.declared.refusals.Cause.TheVariants.{NoPlace}
+use Rattle.backend.specs.Listing.{ListState, flat, entries_from, read_state, write_state, without, one, cleared, joined_if, got_entries, in_object, in_pool, tidy, relisted, listed, lacking, no_place, list_rules}
+use Rattle.backend.specs.Meaning.{Step, PutLaw, GetLaw, DropLaw, Meaning}
+use Rattle.backend.specs.Rules.{Entry, lookup}
 use Rattle.backend.specs.declared.refusals.Refusal.{Refusal}
 use Rattle.backend.specs.Codec.{decode_encode}
 use Rattle.backend.proofs.Entries.{lookup_second, lookup_first}

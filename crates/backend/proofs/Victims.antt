@@ -1,9 +1,9 @@
 -- The key that gives way.
-use Rattle.std.proofs.Common.{◌≡◌, ℕ, zero, suc, ◌+◌, ◌*◌, ◌/◌, ◌%◌, ◌^◌, ◌<◌, ◌≤◌, Bool, true, false, cond, eqb, ltb, ◌⊎◌, List, [], ◌∷◌, ◌++◌, Some, None, fold, count_by, Option, sym, refl, ap, ◌∙◌, subst, inl, inr, arith}
+use Rattle.std.proofs.Common.{◌≡◌, ℕ, ◌%◌, ◌^◌, ◌<◌, ◌≤◌, Bool, true, false, cond, eqb, ltb, List, [], ◌∷◌, Some, None, fold, Option, sym, refl, ap, ◌∙◌, subst, inl, inr, arith}
 use Rattle.std.proofs.ByRecursion.{All-weaker}
 use Rattle.std.proofs.lemmas.List.Sums.{sum_by-cons}
-use Rattle.std.proofs.lemmas.Bool.{cases_eq, cond_both, cond-true, cond-false, eqb-true, eq-eqb, ne_eqb, ltb-true, ltb-false, true≢false, false≢true}
-use Rattle.std.specs.List.{AllByRecursion as All}
+use Rattle.std.proofs.lemmas.Bool.{cases_eq, cond_both, cond-true, cond-false, eqb-true, eq-eqb, ltb-true, ltb-false}
+use Rattle.std.specs.List.{AllByRecursion}
 use Rattle.page.specs.Keys.{pool_of, ephemeral}
 use Rattle.backend.specs.ListLaw.{OldestOfPool, GivesWay}
 use Rattle.backend.specs.Victims.{pool_size, oldest_of, fuller, even_pools_above_0, fullest, victim}
@@ -64,14 +64,14 @@ module _ (ks : List ℕ) where
   chosen : ℕ → List ℕ → ℕ
   chosen a xs = fold (fuller ks) a xs
 
-  chosen_has : (P : ℕ → Type 0) (a : ℕ) (xs : List ℕ) → P a → All P xs → P (chosen a xs)
+  chosen_has : (P : ℕ → Type 0) (a : ℕ) (xs : List ℕ) → P a → AllByRecursion P xs → P (chosen a xs)
   unfolding chosen
   chosen_has P a [] h t = h
   chosen_has P a (x ∷ xs) h t =
       chosen_has P (fuller ks a x) xs (cond_both (ltb (pool_size ks a) (pool_size ks x)) x a P (λ _. t.0) (λ _. h)) t.1
 
   chosen_most : (a : ℕ) (xs : List ℕ)
-      → (pool_size ks a ≤ pool_size ks (chosen a xs)) × All (λ q. pool_size ks q ≤ pool_size ks (chosen a xs)) xs
+      → (pool_size ks a ≤ pool_size ks (chosen a xs)) × AllByRecursion (λ q. pool_size ks q ≤ pool_size ks (chosen a xs)) xs
   unfolding chosen
   chosen_most a [] = (omega arith, tt)
   chosen_most a (x ∷ xs) =
@@ -85,13 +85,13 @@ module _ (ks : List ℕ) where
   -- of pools that ascend, those before the chosen one hold fewer
   lower_head : (a x : ℕ) (xs : List ℕ) (b : Bool) → ltb (pool_size ks a) (pool_size ks x) ≡ b → a < x
       → (c : ℕ) → pool_size ks x ≤ pool_size ks c
-      → ((cond b x a < c → pool_size ks (cond b x a) < pool_size ks c) × All (λ q. q < c → pool_size ks q < pool_size ks c) xs)
-      → (a < c → pool_size ks a < pool_size ks c) × All (λ q. q < c → pool_size ks q < pool_size ks c) (x ∷ xs)
+      → ((cond b x a < c → pool_size ks (cond b x a) < pool_size ks c) × AllByRecursion (λ q. q < c → pool_size ks q < pool_size ks c) xs)
+      → (a < c → pool_size ks a < pool_size ks c) × AllByRecursion (λ q. q < c → pool_size ks q < pool_size ks c) (x ∷ xs)
   lower_head a x xs true t l c most r = ((λ h. omega (arith, ltb-true _ _ t)), (r.0, r.1))
   lower_head a x xs false t l c most r = (r.0, ((λ h. omega (arith, ltb-false _ _ t, r.0 (omega arith))), r.1))
 
   chosen_lowest : (a : ℕ) (xs : List ℕ) → Ascends a xs
-      → (a < chosen a xs → pool_size ks a < pool_size ks (chosen a xs)) × All (λ q. q < chosen a xs → pool_size ks q < pool_size ks (chosen a xs)) xs
+      → (a < chosen a xs → pool_size ks a < pool_size ks (chosen a xs)) × AllByRecursion (λ q. q < chosen a xs → pool_size ks q < pool_size ks (chosen a xs)) xs
   unfolding chosen
   chosen_lowest a [] h = ((λ l. omega arith), tt)
   chosen_lowest a (x ∷ xs) h =
@@ -106,13 +106,13 @@ module _ (ks : List ℕ) where
   fullest_even : fullest ks % 2 ≡ 0
   fullest_even = rw fullest_is (chosen_has (λ q. q % 2 ≡ 0) 0 even_pools_above_0 refl (refl, (refl, (refl, (refl, (refl, (refl, (refl, tt))))))))
 
-  fullest_most : All (λ q. pool_size ks q ≤ pool_size ks (fullest ks)) (0 ∷ even_pools_above_0)
+  fullest_most : AllByRecursion (λ q. pool_size ks q ≤ pool_size ks (fullest ks)) (0 ∷ even_pools_above_0)
   fullest_most = rw fullest_is (chosen_most 0 even_pools_above_0)
 
   ascending : Ascends 0 even_pools_above_0
   ascending = (omega arith, (omega arith, (omega arith, (omega arith, (omega arith, (omega arith, (omega arith, tt)))))))
 
-  fullest_lowest : All (λ q. q < fullest ks → pool_size ks q < pool_size ks (fullest ks)) (0 ∷ even_pools_above_0)
+  fullest_lowest : AllByRecursion (λ q. q < fullest ks → pool_size ks q < pool_size ks (fullest ks)) (0 ∷ even_pools_above_0)
   fullest_lowest = rw fullest_is (chosen_lowest 0 even_pools_above_0 ascending)
 
 pub victim_gives_way : (ks : List ℕ) (k : ℕ) → victim ks ≡ Some k → GivesWay ks k
@@ -127,7 +127,7 @@ victim_gives_way ks k h =
     }
 
 -- what holds of each even pool holds of a number below 16 that is even
-even_pool : (P : ℕ → Type 0) → All P (0 ∷ even_pools_above_0) → (p : ℕ) → p < 16 → p % 2 ≡ 0 → P p
+even_pool : (P : ℕ → Type 0) → AllByRecursion P (0 ∷ even_pools_above_0) → (p : ℕ) → p < 16 → p % 2 ≡ 0 → P p
 even_pool P h p l e =
     let here : (q : ℕ) → P q → p ≡ q → P p = λ q t same. subst P (sym same) t in
     elim (cases_eq p 0) [ inl e ↦ here 0 h.0 e | inr n0 ↦ elim (cases_eq p 2) [ inl e ↦ here 2 h.1.0 e | inr n2 ↦ elim (cases_eq p 4) [ inl e ↦ here 4 h.1.1.0 e | inr n4 ↦ elim (cases_eq p 6) [ inl e ↦ here 6 h.1.1.1.0 e | inr n6 ↦ elim (cases_eq p 8) [ inl e ↦ here 8 h.1.1.1.1.0 e | inr n8 ↦ elim (cases_eq p 10) [ inl e ↦ here 10 h.1.1.1.1.1.0 e | inr n10 ↦ elim (cases_eq p 12) [ inl e ↦ here 12 h.1.1.1.1.1.1.0 e | inr n12 ↦ here 14 h.1.1.1.1.1.1.1.0 (omega arith) ] ] ] ] ] ] ]
@@ -144,7 +144,7 @@ persistent_head : (j : ℕ) (b : Bool) → ephemeral j ≡ b → (b ≡ true →
 persistent_head j true e n = absurd (n refl)
 persistent_head j false e n = e
 
-no_even : (ks : List ℕ) → All (λ k. k < 2 ^ 32) ks → All (λ q. pool_size ks q ≤ 0) (0 ∷ even_pools_above_0) → All (λ k. ephemeral k ≡ false) ks
+no_even : (ks : List ℕ) → AllByRecursion (λ k. k < 2 ^ 32) ks → AllByRecursion (λ q. pool_size ks q ≤ 0) (0 ∷ even_pools_above_0) → AllByRecursion (λ k. ephemeral k ≡ false) ks
 no_even [] small h = tt
 no_even (j ∷ ks) small h = (
   persistent_head j (ephemeral j) refl
@@ -152,7 +152,7 @@ no_even (j ∷ ks) small h = (
   no_even ks small.1 (All-weaker (λ q. pool_size (j ∷ ks) q ≤ 0) (λ q. pool_size ks q ≤ 0) (λ q t. omega (arith, t, size_more j q ks)) (0 ∷ even_pools_above_0) h),
 )
 
-pub no_victim : (ks : List ℕ) → All (λ k. k < 2 ^ 32) ks → victim ks ≡ None → All (λ k. ephemeral k ≡ false) ks
+pub no_victim : (ks : List ℕ) → AllByRecursion (λ k. k < 2 ^ 32) ks → victim ks ≡ None → AllByRecursion (λ k. ephemeral k ≡ false) ks
 unfolding victim
 no_victim ks small h =
     let zero_size = oldest_none (fullest ks) ks h in

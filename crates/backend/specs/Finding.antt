@@ -1,5 +1,5 @@
 -- What is found in a list of held pages, and what may join it.
-use Rattle.std.specs.Prelude.{◌≡◌, ℕ, ◌<◌, ◌≤◌, Bool, true, cond, not, ◌&&◌, List, [], is_some, Some, None, Option}
+use Rattle.std.specs.Prelude.{◌≡◌, ℕ, ◌<◌, ◌≤◌, Bool, true, cond, not, ◌&&◌, List, is_some, Some, None, Option}
 use Rattle.page.specs.declared.keys.Key.{Key}
 use Rattle.backend.specs.Outcomes.{is_page, copied}
 use Rattle.backend.specs.Rules.{Entry, lookup}

@@ -1,6 +1,6 @@
 -- What the list of held pages promises, whatever lacks a place.
 use Rattle.std.specs.Prelude.{◌≡◌, ℕ, ◌^◌, ◌<◌, ◌≤◌, Bool, true, false, List, ◌∷◌, ◌++◌, Some, None, ◌==◌}
-use Rattle.std.specs.List.{AllByRecursion as All}
+use Rattle.std.specs.List.{AllByRecursion}
 use Rattle.page.specs.Keys.{pool_of, ephemeral}
 use Rattle.backend.specs.Listing.{ListState, read_state, write_state, keys_of, without, one, room_made, list_rules}
 use Rattle.backend.specs.Meaning.{Meaning}
@@ -12,20 +12,20 @@ pub record OldestOfPool (ks : List ℕ) (k : ℕ) : Type 0 where
   pub older : List ℕ
   pub newer : List ℕ
   pub among : ks ≡ older ++ k ∷ newer
-  pub first : All (λ j. (pool_of j == pool_of k) ≡ false) older
+  pub first : AllByRecursion (λ j. (pool_of j == pool_of k) ≡ false) older
 
 -- k gives way: it is the oldest of its even pool, no even pool holds more, and those of lower numbers hold fewer
 pub record GivesWay (ks : List ℕ) (k : ℕ) : Type 0 where
   pub even : ephemeral k ≡ true
   pub oldest : OldestOfPool ks k
-  pub most : All (λ pool. pool_size ks pool ≤ pool_size ks (pool_of k)) (0 ∷ even_pools_above_0)
-  pub lowest : All (λ pool. pool < pool_of k → pool_size ks pool < pool_size ks (pool_of k)) (0 ∷ even_pools_above_0)
+  pub most : AllByRecursion (λ pool. pool_size ks pool ≤ pool_size ks (pool_of k)) (0 ∷ even_pools_above_0)
+  pub lowest : AllByRecursion (λ pool. pool < pool_of k → pool_size ks pool < pool_size ks (pool_of k)) (0 ∷ even_pools_above_0)
 
 pub record ListLaw : Type 0 where
   pub keeps : (lacks : List ℕ → List Entry → List ℕ → Bool) → Meaning (list_rules lacks)
   -- the page that gives way; there is none only where every held page is persistent
   pub gives_way : (ks : List ℕ) (k : ℕ) → victim ks ≡ Some k → GivesWay ks k
-  pub none_gives_way : (ks : List ℕ) → All (λ k. k < 2 ^ 32) ks → victim ks ≡ None → All (λ k. ephemeral k ≡ false) ks
+  pub none_gives_way : (ks : List ℕ) → AllByRecursion (λ k. k < 2 ^ 32) ks → victim ks ≡ None → AllByRecursion (λ k. ephemeral k ≡ false) ks
   -- pages are evicted one by one while a place is lacking and an ephemeral page is held
   pub enough : (lacks : List Entry → Bool) (es : List Entry) → lacks es ≡ false → room_made lacks es ≡ es
   pub none_left : (lacks : List Entry → Bool) (es : List Entry) → victim (keys_of es) ≡ None → room_made lacks es ≡ es

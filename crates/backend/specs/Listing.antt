@@ -5,7 +5,7 @@ use Rattle.page.specs.Counts.{one_more}
 use Rattle.page.specs.Keys.{pool_of, ephemeral}
 use Rattle.page.specs.declared.counts.Count.{Count}
 use Rattle.backend.specs.Rules.{Entry, Rules, lookup, pool_object}
-use Rattle.backend.specs.States.{View, encode, decode}
+use Rattle.backend.specs.States.{encode, decode}
 use Rattle.backend.specs.Victims.{victim}
 use Rattle.backend.specs.declared.refusals.Cause.TheVariants.{NoPlace}
 use Rattle.backend.specs.declared.refusals.Refusal.{Refusal}

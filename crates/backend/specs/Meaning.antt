@@ -1,6 +1,6 @@
 -- What every backend keeps, whatever its rules.
 use Rattle.std.specs.Prelude.{◌≡◌, ℕ, ◌^◌, ◌<◌, Bool, true, false, ◌⊎◌, List, [], ◌∷◌, length, Some, None, nat_eq}
-use Rattle.std.specs.List.{AllByRecursion as All}
+use Rattle.std.specs.List.{AllByRecursion}
 use Rattle.page.specs.Counts.{count_of, one_more}
 use Rattle.page.specs.Keys.{pool_of, ephemeral}
 use Rattle.backend.specs.Rules.{Entry, Rules, Valid, lookup, held, pool_object}
@@ -49,7 +49,7 @@ pub record DropLaw (R : Rules) (s t : List ℕ) (named : ℕ → Bool) : Type 0 
 
 pub record Meaning (R : Rules) : Type 0 where
   pub apart : (s : List ℕ) → Valid R s → Apart (R.pages s)
-  pub sized : (s : List ℕ) → Valid R s → All Sized (R.pages s)
+  pub sized : (s : List ℕ) → Valid R s → AllByRecursion Sized (R.pages s)
   pub put : (s : List ℕ) (k : ℕ) (p : List ℕ) → Valid R s → k < 2 ^ 32 → length p ≡ 256 → PutLaw R s k p
   pub get : (s : List ℕ) (k : ℕ) → Valid R s → GetLaw R s k
   pub drop_page : (s : List ℕ) (k : ℕ) → Valid R s → DropLaw R s (R.drop_page_next s k) (λ j. nat_eq j k)

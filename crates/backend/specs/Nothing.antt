@@ -2,7 +2,7 @@
 use Rattle.std.specs.Prelude.{ℕ, true, List, [], Some}
 use Rattle.page.specs.Counts.{one_more}
 use Rattle.backend.specs.Rules.{Rules}
-use Rattle.backend.specs.States.{View, encode, decode}
+use Rattle.backend.specs.States.{encode, decode}
 use Rattle.backend.specs.declared.nothing.Nothing.{Nothing}
 use Rattle.backend.specs.declared.refusals.Cause.TheVariants.{NoPlace}
 

@@ -1,5 +1,5 @@
 -- What a call answers and leaves, by the rules of the backend that is called.
-use Rattle.std.specs.Prelude.{◌≡◌, ℕ, Bool, true, false, cond, List, length, is_some, Some, None, Ok, Err, Option, Result, ◌==◌}
+use Rattle.std.specs.Prelude.{◌≡◌, ℕ, Bool, cond, List, length, is_some, Some, None, Ok, Err, Option, Result, ◌==◌}
 use Rattle.page.specs.declared.keys.Key.{Key}
 use Rattle.backend.specs.Rules.{Rules, held}
 use Rattle.backend.specs.declared.refusals.Cause.TheVariants.{NotAPage}

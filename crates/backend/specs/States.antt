@@ -1,5 +1,5 @@
 -- A part's own state as a list of numbers: its label, its offer count, and two lists, the first behind its length.
-use Rattle.std.specs.Prelude.{ℕ, zero, suc, ◌+◌, List, [], ◌∷◌, ◌++◌, length, take, drop, slice_index}
+use Rattle.std.specs.Prelude.{ℕ, zero, suc, List, ◌∷◌, ◌++◌, length, take, drop, slice_index}
 use Rattle.page.specs.declared.counts.Count.{Count}
 use Rattle.page.specs.declared.counts.Count.TheVariants.{Exact, Over}
 

@@ -1,6 +1,6 @@
 -- Two lines with the same text are the same line.
 use Rattle.std.proofs.Common.{◌≡◌, ℕ, zero, suc, ◌+◌, ◌-◌, ◌%◌, ◌^◌, ◌<◌, ◌≤◌, false, cond, eqb, List, [], ◌∷◌, ◌++◌, length, take, drop, replicate, codes, decimal, sym, refl, ap, ◌∙◌, subst, arith, rules}
-use Rattle.std.specs.List.{flat_map, AllByRecursion as All}
+use Rattle.std.specs.List.{flat_map, AllByRecursion}
 use Rattle.std.proofs.lemmas.Fmt.{decimal_by_steps, length-decimal-le, decimal_injective}
 use Rattle.std.proofs.lemmas.List.{append_assoc, append_cancel_right, length-append, length-replicate, take_at, drop_at}
 use Rattle.page.specs.Counts.{count_text}
@@ -98,7 +98,7 @@ no_row c cs h e =
     let l = ap length e ∙ length-append (value_text c) (flat_map value_text cs) in
     omega (arith, length_value c h)
 
-same_from_row : (xs ys : List Count) → All Counted xs → All Counted ys → flat_map value_text xs ≡ flat_map value_text ys → xs ≡ ys
+same_from_row : (xs ys : List Count) → AllByRecursion Counted xs → AllByRecursion Counted ys → flat_map value_text xs ≡ flat_map value_text ys → xs ≡ ys
 same_from_row [] [] hx hy e = refl
 same_from_row [] (y ∷ ys) hx hy e = absurd (no_row y ys hy.0 e)
 same_from_row (x ∷ xs) [] hx hy e = absurd (no_row x xs hx.0 (sym e))
@@ -108,7 +108,7 @@ same_from_row (x ∷ xs) (y ∷ ys) hx hy e =
     let rest = same_from_row xs ys hx.1 hy.1 p.1 in
     cc
 
-all_counted : (v : Values) → Valued v → All Counted (values_of v)
+all_counted : (v : Values) → Valued v → AllByRecursion Counted (values_of v)
 all_counted Nothing h = tt
 all_counted (Number n) h = (h, tt)
 all_counted (Counts cs) h = h.1

@@ -1,6 +1,6 @@
 -- The text of a line of output: right-justified columns, then a line feed.
 use Rattle.std.specs.Prelude.{◌≡◌, ℕ, ◌-◌, ◌^◌, ◌<◌, List, [], ◌∷◌, ◌++◌, length, replicate, decimal}
-use Rattle.std.specs.List.{flat_map, AllByRecursion as All}
+use Rattle.std.specs.List.{flat_map, AllByRecursion}
 use Rattle.page.specs.Counts.{count_text}
 use Rattle.page.specs.declared.counts.Count.{Count}
 use Rattle.page.specs.declared.counts.Count.TheVariants.{Exact, Over}
@@ -36,7 +36,7 @@ Counted Over = Unit {0}
 abbrev pub Valued : Values → Type 0
 Valued Nothing = Unit {0}
 Valued (Number n) = n < 2 ^ 32
-Valued (Counts counts) = (length counts ≡ 9) × All Counted counts
+Valued (Counts counts) = (length counts ≡ 9) × AllByRecursion Counted counts
 
 pub record Printable (o : OutputLine) : Type 0 where
   pub line : o.line < 2 ^ 16

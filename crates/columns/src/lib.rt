@@ -5,7 +5,7 @@
 #![tactic(auto)]
 
 ghost use Rattle.std.specs.Prelude.{◌≡◌, ◌*◌, ◌≤◌, ◌++◌, length, drop, decimal};
-ghost use Rattle.std.specs.List.{flat_map, AllByRecursion as All};
+ghost use Rattle.std.specs.List.{flat_map, AllByRecursion};
 ghost use Rattle.page.specs.Counts.{count_text};
 ghost use Rattle.columns.specs.Columns.{right, value_text, values_of, line_text, Counted, Valued, Printable};
 
@@ -69,7 +69,7 @@ fn put_count(field: &mut [u8], count: Count)
 fn put_counts(buffer: &mut [u8], counts: &[Count])
     requires { 11 * length counts.now ≤ length buffer.old }
     ensures bytes { buffer.new ≡ flat_map value_text counts.now ++ drop (11 * length counts.now) buffer.old }
-    ensures fits { All Counted counts.now }
+    ensures fits { AllByRecursion Counted counts.now }
 {
     let mut start = 0;
     for count in counts {

@@ -4,7 +4,7 @@ use Rattle.std.proofs.lemmas.List.Elements.{filter-append}
 use Rattle.std.proofs.ByRecursion.{All-weaker}
 use Rattle.std.proofs.lemmas.List.{append-nil, get_or-set_same, get_or-set_other}
 use Rattle.std.proofs.lemmas.Bool.{cond-false, eq-eqb, not_from_true}
-use Rattle.std.specs.List.{AllByRecursion as All}
+use Rattle.std.specs.List.{AllByRecursion}
 use Rattle.page.specs.Memory.{pages_in, start_of, page_at, put_page}
 use Rattle.page.proofs.Areas.{rest_apart}
 use Rattle.backend.specs.Rules.{Entry}
@@ -26,7 +26,7 @@ without_pushed k p H none =
     ∙ (ap (λ (R : List Holding). without_key k H ++ R) (cond-false (not (eqb k k)) _ _ (not_from_true _ (eq-eqb k k refl)))
     ∙ (append-nil (without_key k H) ∙ without_none k H none))
 
-all_two : (P Q R : ℕ → Type 0) → ((x : ℕ) → P x → Q x → R x) → (xs : List ℕ) → All P xs → All Q xs → All R xs
+all_two : (P Q R : ℕ → Type 0) → ((x : ℕ) → P x → Q x → R x) → (xs : List ℕ) → AllByRecursion P xs → AllByRecursion Q xs → AllByRecursion R xs
 all_two P Q R both [] p q = tt
 all_two P Q R both (x ∷ xs) p q = (both x p.0 q.0, all_two P Q R both xs p.1 q.1)
 
@@ -64,7 +64,7 @@ module _ (users area noted : List ℕ) (H : List Holding) (counted : Counted use
     noted_here : noted_after p ≡ i
     noted_here = get_or-set_same noted p i 0 within
 
-    noted_elsewhere : All (λ q. noted_after q ≡ get_or noted q 0) (taken H)
+    noted_elsewhere : AllByRecursion (λ q. noted_after q ≡ get_or noted q 0) (taken H)
     noted_elsewhere = All-weaker (λ q. q ≡ p → ⊥) (λ q. noted_after q ≡ get_or noted q 0) (λ q ne. get_or-set_other noted p q i 0 ne) (taken H) fresh
 
     pub joined_counted : Counted users_after (contents_by noted_after (H ++ record { key = k; place = p } ∷ []))

@@ -6,7 +6,7 @@ use Rattle.std.proofs.ByRecursion.{All-weaker}
 use Rattle.std.proofs.lemmas.List.{get_or_past, get_or-replicate, length-map, length-replicate}
 use Rattle.std.proofs.lemmas.List.Sums.{sum_by-cons, count_by-le-length}
 use Rattle.std.proofs.lemmas.Bool.{cases_lt, and_from, and_left, and_right, cond-true, eq-eqb, le-leb, lt-leb, lt-ltb, not_from_true, not_from_false, or_left, or_right, or_from}
-use Rattle.std.specs.List.{AllByRecursion as All}
+use Rattle.std.specs.List.{AllByRecursion}
 use Rattle.page.specs.Counts.{count_of}
 use Rattle.page.specs.Memory.{page_at}
 use Rattle.page.specs.declared.counts.Count.TheVariants.{Exact}
@@ -36,7 +36,7 @@ uses_first g x H =
     let c = g x.place in
     omega (arith, sum_by-cons (λ d. cond (d == c) 1 0) c (contents_by g H), cond-true {A = ℕ} (c == c) 1 0 (eq-eqb c c refl))
 
-pub all_used : (g : ℕ → ℕ) (H : List Holding) → All (λ p. 1 ≤ uses (g p) (contents_by g H)) (taken H)
+pub all_used : (g : ℕ → ℕ) (H : List Holding) → AllByRecursion (λ p. 1 ≤ uses (g p) (contents_by g H)) (taken H)
 all_used g [] = tt
 all_used g (x ∷ H) = (
   uses_first g x H,
@@ -47,7 +47,7 @@ module _ (users area : List ℕ) (g : ℕ → ℕ) (H : List Holding) (counted :
   abbrev es : List Entry
   es = entries_by (λ p. page_at area (g p)) H
 
-  pub users_of_taken : All (λ p. 1 ≤ slice_index users (g p)) (taken H)
+  pub users_of_taken : AllByRecursion (λ p. 1 ≤ slice_index users (g p)) (taken H)
   users_of_taken =
       All-weaker (λ p. 1 ≤ uses (g p) (contents_by g H)) (λ p. 1 ≤ slice_index users (g p)) (λ p h. omega (arith, h, counted (g p))) (taken H) (all_used g H)
 

@@ -4,7 +4,7 @@ use Rattle.std.proofs.Common.{sym, ap, subst, ◌∙◌, arith}
 use Rattle.std.proofs.lemmas.List.{map-append}
 use Rattle.std.proofs.lemmas.List.Sums.{sum_by-cons}
 use Rattle.std.proofs.lemmas.Bool.{cond-true, cond-false, eqb-true, ne_eqb, not_from_false}
-use Rattle.std.specs.List.{AllByRecursion as All}
+use Rattle.std.specs.List.{AllByRecursion}
 use Rattle.held.specs.Entries.{entries_by}
 use Rattle.held.specs.Holdings.{Holding, keys, taken, place_of, without_key}
 use Rattle.held.specs.Rings.{Absent, Apart}
@@ -15,7 +15,7 @@ pub pages_are : (page_of : ℕ → List ℕ) (g : ℕ → ℕ) (H : List Holding
 pages_are page_of g [] = tt
 pages_are page_of g (x ∷ H) = (refl, pages_are page_of g H)
 
-pub contents_same : (g h : ℕ → ℕ) (H : List Holding) → All (λ p. g p ≡ h p) (taken H) → contents_by g H ≡ contents_by h H
+pub contents_same : (g h : ℕ → ℕ) (H : List Holding) → AllByRecursion (λ p. g p ≡ h p) (taken H) → contents_by g H ≡ contents_by h H
 contents_same g h [] same = refl
 contents_same g h (x ∷ H) same = let a = same.0 in let b = contents_same g h H same.1 in cc
 

@@ -1,6 +1,6 @@
 -- Counts of keys by their pools.
 use Rattle.std.proofs.Common.{◌≡◌, ℕ, zero, suc, ◌+◌, ◌-◌, ◌*◌, ◌/◌, ◌^◌, ◌<◌, ◌≤◌, Bool, true, false, cond, ◌&&◌, eqb, ltb, leb, ◌⊎◌, List, [], ◌∷◌, length, get_or, set, is_some, Some, None, count_by, Option, sym, refl, ap, ◌∙◌, subst, ⊎_elim, add-one, arith}
-use Rattle.std.specs.List.{AllByRecursion as All}
+use Rattle.std.specs.List.{AllByRecursion}
 use Rattle.std.proofs.ByRecursion.{All-weaker}
 use Rattle.std.proofs.lemmas.List.Sums.{sum_by-cons, count_by-le-length}
 use Rattle.std.proofs.lemmas.Bool.{cases_eq, cases_lt, eq-eqb, ne_eqb, le-leb, lt-leb, lt-ltb, le-ltb, and_from, and_left, and_right, cond-true, cond-false, cond_both, both_ways}
@@ -14,12 +14,12 @@ use Rattle.held.proofs.Places.{place_hit, place_miss, some_none, none_from_absen
 pub count_cons : (p : ℕ → Bool) (x : ℕ) (xs : List ℕ) → count_by p (x ∷ xs) ≡ cond (p x) 1 0 + count_by p xs
 count_cons p x xs = sum_by-cons (λ y. cond (p y) 1 0) x xs
 
-count_alike : (p q : ℕ → Bool) (xs : List ℕ) → All (λ x. p x ≡ q x) xs → count_by p xs ≡ count_by q xs
+count_alike : (p q : ℕ → Bool) (xs : List ℕ) → AllByRecursion (λ x. p x ≡ q x) xs → count_by p xs ≡ count_by q xs
 count_alike p q [] a = refl
 count_alike p q (x ∷ xs) a =
     count_cons p x xs ∙ (ap (λ b. cond b 1 0 + count_by p xs) a.0 ∙ (ap (λ n. cond (q x) 1 0 + n) (count_alike p q xs a.1) ∙ sym (count_cons q x xs)))
 
-count_none : (p : ℕ → Bool) (xs : List ℕ) → All (λ x. p x ≡ false) xs → count_by p xs ≡ 0
+count_none : (p : ℕ → Bool) (xs : List ℕ) → AllByRecursion (λ x. p x ≡ false) xs → count_by p xs ≡ 0
 count_none p [] a = refl
 count_none p (x ∷ xs) a = count_cons p x xs ∙ (ap (λ b. cond b 1 0 + count_by p xs) a.0 ∙ (let e = count_none p xs a.1 in omega arith))
 
@@ -40,10 +40,10 @@ pub pool_between : (ks : List ℕ) (pool : ℕ) → pool_size ks pool ≡ betwee
 pool_between ks pool = ap (λ (p : ℕ → Bool). count_by p ks) (λ i k. in_pool pool k i)
 
 -- there is no pool above 15
-pub pool_none : (ks : List ℕ) (pool : ℕ) → All (λ k. k < 2 ^ 32) ks → 15 < pool → pool_size ks pool ≡ 0
+pub pool_none : (ks : List ℕ) (pool : ℕ) → AllByRecursion (λ k. k < 2 ^ 32) ks → 15 < pool → pool_size ks pool ≡ 0
 pool_none ks pool a l = count_none (λ k. eqb (k / 2 ^ 28) pool) ks (All-weaker (λ k. k < 2 ^ 32) (λ k. eqb (k / 2 ^ 28) pool ≡ false) (λ k h. ne_eqb (k / 2 ^ 28) pool (λ e. omega arith)) ks a)
 
-pub between_none : (ks : List ℕ) (low high : ℕ) → All (λ k. low ≤ k → k < high → ⊥) ks → between ks low high ≡ 0
+pub between_none : (ks : List ℕ) (low high : ℕ) → AllByRecursion (λ k. low ≤ k → k < high → ⊥) ks → between ks low high ≡ 0
 between_none ks low high a =
     count_none (λ k. leb low k && ltb k high) ks
     (All-weaker (λ k. low ≤ k → k < high → ⊥) (λ k. (leb low k && ltb k high) ≡ false)
@@ -82,12 +82,12 @@ module _ (low high x : ℕ) (lx : low ≤ x) (xh : x < high) where
       (cases_lt k x))
       (cases_lt k low))
 
-  past_all : (ks : List ℕ) → All (λ k. low ≤ k → k < x → ⊥) ks → Absent x ks → All (λ k. (leb low k && ltb k high) ≡ (leb (x + 1) k && ltb k high)) ks
+  past_all : (ks : List ℕ) → AllByRecursion (λ k. low ≤ k → k < x → ⊥) ks → Absent x ks → AllByRecursion (λ k. (leb low k && ltb k high) ≡ (leb (x + 1) k && ltb k high)) ks
   past_all [] a b = tt
   past_all (k ∷ ks) a b = (past k a.0 b.0, past_all ks a.1 b.1)
 
   -- the first key counts one, and the others lie after it
-  pub between_step : (ks : List ℕ) → Apart ks → (Absent x ks → ⊥) → All (λ k. low ≤ k → k < x → ⊥) ks → between ks low high ≡ 1 + between ks (x + 1) high
+  pub between_step : (ks : List ℕ) → Apart ks → (Absent x ks → ⊥) → AllByRecursion (λ k. low ≤ k → k < x → ⊥) ks → between ks low high ≡ 1 + between ks (x + 1) high
   between_step [] ap₀ m a = absurd (m tt)
   between_step (k ∷ ks) ap₀ m a =
       let p : ℕ → Bool = λ j. leb low j && ltb j high in
@@ -109,7 +109,7 @@ module _ (low high x : ℕ) (lx : low ≤ x) (xh : x < high) where
       (cases_eq k x)
 
 -- keys with no place are not held
-pub none_held : (H : List Holding) (P : ℕ → Type 0) → ((q : ℕ) → P q → place_of q H ≡ None) → All (λ k. P k → ⊥) (keys H)
+pub none_held : (H : List Holding) (P : ℕ → Type 0) → ((q : ℕ) → P q → place_of q H ≡ None) → AllByRecursion (λ k. P k → ⊥) (keys H)
 none_held [] P f = tt
 none_held (x ∷ H) P f = (
   (λ p. some_none (sym (place_hit x.key x H refl) ∙ f x.key p)),

@@ -3,7 +3,7 @@ use Rattle.std.proofs.Common.{◌≡◌, ℕ, ◌^◌, ◌<◌, ◌≤◌, Bool,
 use Rattle.std.proofs.lemmas.List.{map-append, length-map}
 use Rattle.std.proofs.lemmas.Bool.{and_from, and_left, and_right, cond-false, ne_eqb, not_from_true, not_from_false}
 use Rattle.std.specs.Option.{option_map}
-use Rattle.std.specs.List.{AllByRecursion as All}
+use Rattle.std.specs.List.{AllByRecursion}
 use Rattle.page.specs.declared.keys.Key.{Key}
 use Rattle.backend.specs.Finding.{FirstHeld, joins, found, filled}
 use Rattle.backend.specs.Outcomes.{is_page, copied}
@@ -60,7 +60,7 @@ module _ (f : ℕ → List ℕ) where
   length_entries H = length-map H (entry_by f)
 
 -- pages that are the same at every taken place
-pub same_entries : (f h : ℕ → List ℕ) (H : List Holding) → All (λ p. f p ≡ h p) (taken H) → entries_by f H ≡ entries_by h H
+pub same_entries : (f h : ℕ → List ℕ) (H : List Holding) → AllByRecursion (λ p. f p ≡ h p) (taken H) → entries_by f H ≡ entries_by h H
 same_entries f h [] same = refl
 same_entries f h (x ∷ H) same =
     ap (λ (p : List ℕ). record { key = x.key; page = p } ∷ entries_by f H) same.0
@@ -74,16 +74,16 @@ entries_apart : (f : ℕ → List ℕ) (H : List Holding) → Apart (keys H) →
 entries_apart f [] h = tt
 entries_apart f (x ∷ H) h = (none_entries f x.key H (absent_none x.key H h.0), entries_apart f H h.1)
 
-entries_sized : (f : ℕ → List ℕ) (H : List Holding) → All (λ k. k < 2 ^ 32) (keys H) → All (λ p. length (f p) ≡ 256) (taken H) → All Sized (entries_by f H)
+entries_sized : (f : ℕ → List ℕ) (H : List Holding) → AllByRecursion (λ k. k < 2 ^ 32) (keys H) → AllByRecursion (λ p. length (f p) ≡ 256) (taken H) → AllByRecursion Sized (entries_by f H)
 entries_sized f [] small whole = tt
 entries_sized f (x ∷ H) small whole = ((small.0, whole.0), entries_sized f H small.1 whole.1)
 
 -- held keys are apart and have 32 bits, so with whole pages the list can be that of a store
-pub tidy_entries : (h : Held) (f : ℕ → List ℕ) → All (λ p. length (f p) ≡ 256) (taken (holdings h)) → tidy (entries_by f (holdings h)) ≡ true
+pub tidy_entries : (h : Held) (f : ℕ → List ℕ) → AllByRecursion (λ p. length (f p) ≡ 256) (taken (holdings h)) → tidy (entries_by f (holdings h)) ≡ true
 tidy_entries h f whole = tidy_from _ (entries_apart f (holdings h) (keys_apart h)) (entries_sized f (holdings h) (keys_small h) whole)
 
 -- a place of a held key is one of the taken places
-pub place_taken : (P : ℕ → Type 0) (k p : ℕ) (H : List Holding) → All P (taken H) → place_of k H ≡ Some p → P p
+pub place_taken : (P : ℕ → Type 0) (k p : ℕ) (H : List Holding) → AllByRecursion P (taken H) → place_of k H ≡ Some p → P p
 place_taken P k p [] all h = let z : ◌≡◌ {A = ℕ} 0 1 = cc in absurd (omega arith)
 place_taken P k p (x ∷ H) all h = way (eqb x.key k) (place_taken P k p H all.1) h
   where

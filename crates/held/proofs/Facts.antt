@@ -1,6 +1,6 @@
 -- What is known of any held keys.
 use Rattle.std.proofs.Common.{◌≡◌, ℕ, ◌+◌, ◌/◌, ◌^◌, ◌<◌, ◌≤◌, true, eqb, List, [], ◌∷◌, map, length, is_some, Some, vec_items, sym, refl, ap, ◌∙◌, subst, ⊎_elim, arith}
-use Rattle.std.specs.List.{AllByRecursion as All}
+use Rattle.std.specs.List.{AllByRecursion}
 use Rattle.std.proofs.lemmas.List.{length-map}
 use Rattle.std.proofs.lemmas.Bool.{cases_eq, eq-eqb, ne_eqb, cond-true, cond-false}
 use Rattle.backend.specs.Victims.{oldest_of, fullest, victim}
@@ -55,16 +55,16 @@ pub size_small : (h : Held) → size_of h ≤ 4096
 size_small h = (whole h).small
 
 -- the places are below `size`, and no two keys have one place
-pub places_below : (h : Held) → All (λ p. p < size_of h) (taken (holdings h))
+pub places_below : (h : Held) → AllByRecursion (λ p. p < size_of h) (taken (holdings h))
 unfolding holdings
-places_below h = subst (All (λ p. p < h.size)) (sym (taken_held (vec_items h.table) (places h.size h.count (vec_items h.table)))) (whole h).rings.one_below
+places_below h = subst (AllByRecursion (λ p. p < h.size)) (sym (taken_held (vec_items h.table) (places h.size h.count (vec_items h.table)))) (whole h).rings.one_below
 
 pub places_apart : (h : Held) → Apart (taken (holdings h))
 unfolding holdings
 places_apart h = subst Apart (sym (taken_held (vec_items h.table) (places h.size h.count (vec_items h.table)))) (whole h).rings.one_apart
 
 -- the keys are 32-bit numbers, and no key is held twice
-pub keys_small : (h : Held) → All (λ k. k < 2 ^ 32) (keys (holdings h))
+pub keys_small : (h : Held) → AllByRecursion (λ k. k < 2 ^ 32) (keys (holdings h))
 unfolding holdings
 keys_small h = (whole h).keys_small
 

@@ -1,6 +1,6 @@
 -- New rings, of which one has every place.
 use Rattle.std.proofs.Common.{◌≡◌, ℕ, zero, suc, ◌+◌, ◌-◌, ◌/◌, ◌^◌, ◌<◌, ◌≤◌, min, ◌⊎◌, List, [], ◌∷◌, ◌++◌, length, None, sym, refl, ap, ◌∙◌, subst, inl, inr, ⊎_elim, add-one, arith}
-use Rattle.std.specs.List.{AllByRecursion as All}
+use Rattle.std.specs.List.{AllByRecursion}
 use Rattle.std.proofs.ByRecursion.{All-push, All-weaker}
 use Rattle.std.proofs.lemmas.List.{length_push}
 use Rattle.std.proofs.lemmas.Bool.{cases_lt}
@@ -17,7 +17,7 @@ pub length_below : (n : ℕ) → length (below n) ≡ n
 length_below zero = refl
 length_below (suc n) = length_push (below n) n ∙ (ap (λ x. x + 1) (length_below n) ∙ add-one n)
 
-below_low : (n : ℕ) → All (λ p. p < n) (below n)
+below_low : (n : ℕ) → AllByRecursion (λ p. p < n) (below n)
 below_low zero = tt
 below_low (suc n) = All-push (λ p. p < suc n) (below n) n (All-weaker (λ p. p < n) (λ p. p < suc n) (λ x h. omega arith) (below n) (below_low n)) (omega arith)
 

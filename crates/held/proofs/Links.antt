@@ -1,26 +1,26 @@
 -- Rings after a place is taken out of one and put into the other.
 use Rattle.std.proofs.Common.{◌≡◌, ℕ, zero, suc, ◌+◌, ◌-◌, ◌<◌, ◌≤◌, List, [], ◌∷◌, ◌++◌, length, sym, refl, ap, ◌∙◌, subst, arith}
-use Rattle.std.specs.List.{AllByRecursion as All}
+use Rattle.std.specs.List.{AllByRecursion}
 use Rattle.std.proofs.ByRecursion.{All-append, All-push, All-weaker}
 use Rattle.held.specs.Rings.{Links, walk, Absent, Apart, Rings, Unlinked, Linked}
 
-pub all_left : {X : Type 0} (P : X → Type 0) (xs ys : List X) → All P (xs ++ ys) → All P xs
+pub all_left : {X : Type 0} (P : X → Type 0) (xs ys : List X) → AllByRecursion P (xs ++ ys) → AllByRecursion P xs
 all_left P [] ys a = tt
 all_left P (x ∷ xs) ys a = (a.0, all_left P xs ys a.1)
 
-pub all_right : {X : Type 0} (P : X → Type 0) (xs ys : List X) → All P (xs ++ ys) → All P ys
+pub all_right : {X : Type 0} (P : X → Type 0) (xs ys : List X) → AllByRecursion P (xs ++ ys) → AllByRecursion P ys
 all_right P [] ys a = a
 all_right P (x ∷ xs) ys a = all_right P xs ys a.1
 
 -- what holds of all holds of all but one
-pub all_but : {X : Type 0} (P : X → Type 0) (xs : List X) (p : X) (ys : List X) → All P (xs ++ p ∷ ys) → All P (xs ++ ys)
+pub all_but : {X : Type 0} (P : X → Type 0) (xs : List X) (p : X) (ys : List X) → AllByRecursion P (xs ++ p ∷ ys) → AllByRecursion P (xs ++ ys)
 all_but P xs p ys a = All-append P xs ys (all_left P xs (p ∷ ys) a) (all_right P xs (p ∷ ys) a).1
 
-pub all_here : {X : Type 0} (P : X → Type 0) (xs : List X) (p : X) (ys : List X) → All P (xs ++ p ∷ ys) → P p
+pub all_here : {X : Type 0} (P : X → Type 0) (xs : List X) (p : X) (ys : List X) → AllByRecursion P (xs ++ p ∷ ys) → P p
 all_here P xs p ys a = (all_right P xs (p ∷ ys) a).0
 
 -- places below size are none of the ends
-pub end_absent : (size e : ℕ) (ps : List ℕ) → size ≤ e → All (λ p. p < size) ps → Absent e ps
+pub end_absent : (size e : ℕ) (ps : List ℕ) → size ≤ e → AllByRecursion (λ p. p < size) ps → Absent e ps
 end_absent size e ps l a = All-weaker (λ p. p < size) (λ y. y ≡ e → ⊥) (λ x h q. omega arith) ps a
 
 pub apart_push : (xs : List ℕ) (p : ℕ) → Apart xs → Absent p xs → Apart (xs ++ p ∷ [])
@@ -36,16 +36,16 @@ pub apart_here : (xs : List ℕ) (p : ℕ) (ys : List ℕ) → Apart (xs ++ p �
 apart_here [] p ys a = a.0
 apart_here (x ∷ xs) p ys a = ((λ q. all_here (λ y. y ≡ x → ⊥) xs p ys a.0 (sym q)), apart_here xs p ys a.1)
 
-pub absent_comes : (xs ys : List ℕ) → All (λ p. Absent p ys) xs → All (λ p. Absent p xs) ys
+pub absent_comes : (xs ys : List ℕ) → AllByRecursion (λ p. Absent p ys) xs → AllByRecursion (λ p. Absent p xs) ys
 absent_comes xs [] a = tt
 absent_comes xs (y ∷ ys) a =
     (All-weaker (λ p. Absent p (y ∷ ys)) (λ x. x ≡ y → ⊥) (λ x h q. h.0 (sym q)) xs a, absent_comes xs ys (All-weaker (λ p. Absent p (y ∷ ys)) (λ p. Absent p ys) (λ x h. h.1) xs a))
 
-all_both : (P Q : ℕ → Type 0) (xs : List ℕ) → All P xs → All Q xs → All (λ x. P x × Q x) xs
+all_both : (P Q : ℕ → Type 0) (xs : List ℕ) → AllByRecursion P xs → AllByRecursion Q xs → AllByRecursion (λ x. P x × Q x) xs
 all_both P Q [] a b = tt
 all_both P Q (x ∷ xs) a b = ((a.0, b.0), all_both P Q xs a.1 b.1)
 
-all_both_three : (P Q R : ℕ → Type 0) (xs : List ℕ) → All P xs → All Q xs → All R xs → All (λ x. P x × Q x × R x) xs
+all_both_three : (P Q R : ℕ → Type 0) (xs : List ℕ) → AllByRecursion P xs → AllByRecursion Q xs → AllByRecursion R xs → AllByRecursion (λ x. P x × Q x × R x) xs
 all_both_three P Q R [] a b c = tt
 all_both_three P Q R (x ∷ xs) a b c = ((a.0, b.0, c.0), all_both_three P Q R xs a.1 b.1 c.1)
 
@@ -67,7 +67,7 @@ module _ (n o : ℕ → ℕ) where
 
   module _ (n' o' : ℕ → ℕ) where
     -- links outlast writes elsewhere
-    links_kept : (a : ℕ) (ps : List ℕ) (b : ℕ) → Links n o a ps b → n' a ≡ n a → All (λ p. n' p ≡ n p) ps → All (λ p. o' p ≡ o p) ps → o' b ≡ o b → Links n' o' a ps b
+    links_kept : (a : ℕ) (ps : List ℕ) (b : ℕ) → Links n o a ps b → n' a ≡ n a → AllByRecursion (λ p. n' p ≡ n p) ps → AllByRecursion (λ p. o' p ≡ o p) ps → o' b ≡ o b → Links n' o' a ps b
     links_kept a [] b l na nps ops ob = (na ∙ l.0, ob ∙ l.1)
     links_kept a (p ∷ ps) b l na nps ops ob = (na ∙ l.0, ops.0 ∙ l.1, links_kept p ps b l.2 nps.0 nps.1 ops.1 ob)
 
@@ -121,15 +121,15 @@ module _ (n o : ℕ → ℕ) where
     )
 
 -- neighbours are places, or ends
-last_within : (n o : ℕ → ℕ) (m a : ℕ) (ps : List ℕ) (b : ℕ) → Links n o a ps b → a < m → All (λ p. p < m) ps → o b < m
+last_within : (n o : ℕ → ℕ) (m a : ℕ) (ps : List ℕ) (b : ℕ) → Links n o a ps b → a < m → AllByRecursion (λ p. p < m) ps → o b < m
 last_within n o m a [] b l h c = let e = l.1 in omega arith
 last_within n o m a (p ∷ ps) b l h c = last_within n o m p ps b l.2 c.0 c.1
 
-first_within : (n o : ℕ → ℕ) (m a : ℕ) (ps : List ℕ) (b : ℕ) → Links n o a ps b → b < m → All (λ p. p < m) ps → n a < m
+first_within : (n o : ℕ → ℕ) (m a : ℕ) (ps : List ℕ) (b : ℕ) → Links n o a ps b → b < m → AllByRecursion (λ p. p < m) ps → n a < m
 first_within n o m a [] b l h c = let e = l.0 in omega arith
 first_within n o m a (p ∷ ps) b l h c = let e = l.0 in let k = c.0 in omega arith
 
-below_more : (size m : ℕ) (ps : List ℕ) → size ≤ m → All (λ p. p < size) ps → All (λ p. p < m) ps
+below_more : (size m : ℕ) (ps : List ℕ) → size ≤ m → AllByRecursion (λ p. p < size) ps → AllByRecursion (λ p. p < m) ps
 below_more size m ps l a = All-weaker (λ p. p < size) (λ p. p < m) (λ x h. omega arith) ps a
 
 pub place_within : {n o : ℕ → ℕ} {size e f : ℕ} {two : List ℕ} (xs : List ℕ) (p : ℕ) (ys : List ℕ) (m : ℕ) → Rings n o size e f (xs ++ p ∷ ys) two → size ≤ m → e < m → (p < size) × (o p < m) × (n p < m)

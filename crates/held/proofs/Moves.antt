@@ -1,6 +1,6 @@
 -- The held keys after a key is put or taken out.
 use Rattle.std.proofs.Common.{◌≡◌, ℕ, zero, suc, ◌+◌, ◌-◌, ◌^◌, ◌<◌, ◌≤◌, Bool, true, false, cond, not, ◌⊎◌, List, [], ◌∷◌, ◌++◌, map, length, Some, None, Option, sym, refl, ap, ◌∙◌, subst, ⊎_elim, arith}
-use Rattle.std.specs.List.{AllByRecursion as All}
+use Rattle.std.specs.List.{AllByRecursion}
 use Rattle.std.proofs.ByRecursion.{All-push}
 use Rattle.std.proofs.lemmas.List.{length-append, length_push, map_push}
 use Rattle.std.proofs.lemmas.Bool.{cases_eq}
@@ -32,7 +32,7 @@ without_length k v ne =
 -- rings of known places are those that the walks give
 pub whole_made : (size count : ℕ) (t : List Record) (v : List (ℕ × ℕ)) (m n : ℕ) (one two : List ℕ)
     → Rings (newer_in t) (older_in t) size size (size + 1) one two → length one ≡ count → length two ≡ size - count → count ≤ size → size ≤ 4096 → length t ≡ size + 2 → size ≤ room m n
-    → All (λ k. k < 2 ^ 32) (keys (held_at t one)) → Apart (keys (held_at t one)) → length v ≡ count → ((k : ℕ) → look k v ≡ place_of k (held_at t one))
+    → AllByRecursion (λ k. k < 2 ^ 32) (keys (held_at t one)) → Apart (keys (held_at t one)) → length v ≡ count → ((k : ℕ) → look k v ≡ place_of k (held_at t one))
     → (places size count t ≡ one) × WholeIn size count t v m n
 whole_made size count t v m n one two r l₁ l₂ fits small long roomy ks ka c f =
     let is_one : one ≡ places size count t = sym (walk_links (newer_in t) (older_in t) size one size r.one_links) ∙ ap (walk (newer_in t) (newer_in t size)) l₁ in
@@ -44,7 +44,7 @@ whole_made size count t v m n one two r l₁ l₂ fits small long roomy ks ka c 
         small = small;
         long = long;
         roomy = roomy;
-        keys_small = subst (λ x. All (λ k. k < 2 ^ 32) (keys (held_at t x))) is_one ks;
+        keys_small = subst (λ x. AllByRecursion (λ k. k < 2 ^ 32) (keys (held_at t x))) is_one ks;
         keys_apart = subst (λ x. Apart (keys (held_at t x))) is_one ka;
         filed_count = c;
         filed_places = λ k. f k ∙ ap (λ x. place_of k (held_at t x)) is_one;
@@ -92,7 +92,7 @@ module _ (size count : ℕ) (t : List Record) (v : List (ℕ × ℕ)) (m n : ℕ
       let ks : keys (H ++ x ∷ []) ≡ keys H ++ key ∷ [] = map_push (λ z. z.key) H x in
       let lo = length_walk (newer_in t) (newer_in t size) count in
       let made = whole_made size (count + 1) t₃ (put key p v) m n (ps ++ p ∷ []) ys after (length_push ps p ∙ ap (λ z. z + 1) lo) (length_walk (newer_in t) (newer_in t p) (size - (count + 1))) (omega arith) w.small (len ∙ w.long) w.roomy
-      (subst (All (λ k. k < 2 ^ 32)) (sym (ap keys is ∙ ks)) (All-push (λ k. k < 2 ^ 32) (keys H) key w.keys_small low))
+      (subst (AllByRecursion (λ k. k < 2 ^ 32)) (sym (ap keys is ∙ ks)) (All-push (λ k. k < 2 ^ 32) (keys H) key w.keys_small low))
       (subst Apart (sym (ap keys is ∙ ks)) (apart_push (keys H) key w.keys_apart (absent_from_none key H new)))
       (put_length key p v (w.filed_places key ∙ new) ∙ ap (λ z. z + 1) w.filed_count)
       (λ k.
@@ -126,7 +126,7 @@ module _ (size count : ℕ) (t : List Record) (v : List (ℕ × ℕ)) (m n : ℕ
       let H = held_at t ps in
       let moved = rings_moved (newer_in t) (older_in t) (newer_in t₁) (older_in t₁) (newer_in t₂) (older_in t₂) size size (size + 1) p xs ys (spare size count t) (omega arith) (omega arith) (λ q. omega arith) s.4 u l in
       let apart : Apart (keys (held_at t xs) ++ key_in t p ∷ keys (held_at t ys)) = subst Apart (ap (λ z. keys (held_at t z)) s.2 ∙ keys_held t xs p ys) w.keys_apart in
-      let low : All (λ k. k < 2 ^ 32) (keys (held_at t xs) ++ key_in t p ∷ keys (held_at t ys)) = subst (All (λ k. k < 2 ^ 32)) (ap (λ z. keys (held_at t z)) s.2 ∙ keys_held t xs p ys) w.keys_small in
+      let low : AllByRecursion (λ k. k < 2 ^ 32) (keys (held_at t xs) ++ key_in t p ∷ keys (held_at t ys)) = subst (AllByRecursion (λ k. k < 2 ^ 32)) (ap (λ z. keys (held_at t z)) s.2 ∙ keys_held t xs p ys) w.keys_small in
       let once : Absent key (keys (held_at t (xs ++ ys))) = subst (λ z. Absent z (keys (held_at t (xs ++ ys)))) s.3 (subst (Absent (key_in t p)) (sym (keys_held_append t xs ys)) (apart_here (keys (held_at t xs)) (key_in t p) (keys (held_at t ys)) apart)) in
       let is : held_at t₂ (xs ++ ys) ≡ without_key key H
       = held_same t t₂ (λ j. k₂ j ∙ k₁ j) (xs ++ ys) ∙ sym (ap (λ z. without_key key (held_at t z)) s.2 ∙ without_held t key xs p ys s.3 once) in
@@ -136,7 +136,7 @@ module _ (size count : ℕ) (t : List Record) (v : List (ℕ × ℕ)) (m n : ℕ
       let fits = w.fits in
       let two_length : length (spare size count t ++ p ∷ []) ≡ size - (count - 1) = omega (arith, length_walk (newer_in t) (newer_in t (size + 1)) (size - count), length_push (spare size count t) p) in
       let made = whole_made size (count - 1) t₂ (without key v) m n (xs ++ ys) (spare size count t ++ p ∷ []) moved one_length two_length (omega arith) w.small (len ∙ w.long) w.roomy
-      (subst (All (λ k. k < 2 ^ 32)) (sym ks) (all_but (λ k. k < 2 ^ 32) (keys (held_at t xs)) (key_in t p) (keys (held_at t ys)) low))
+      (subst (AllByRecursion (λ k. k < 2 ^ 32)) (sym ks) (all_but (λ k. k < 2 ^ 32) (keys (held_at t xs)) (key_in t p) (keys (held_at t ys)) low))
       (subst Apart (sym ks) (apart_but (keys (held_at t xs)) (key_in t p) (keys (held_at t ys)) apart))
       (omega (arith, without_length key v (λ z. some_none (sym e ∙ z)), w.filed_count))
       (λ k.

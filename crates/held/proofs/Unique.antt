@@ -3,7 +3,7 @@ use Rattle.std.proofs.Common.{◌≡◌, ℕ, suc, ◌+◌, ◌^◌, ◌<◌, �
 use mathlib.Core.Logic.{∥∥₁_elim}
 use base.Stored.{Coded, coded_via, coded_list, coded_ℕ, Coded-set}
 use denote.Struct.Props.{props}
-use Rattle.std.specs.List.{AllByRecursion as All}
+use Rattle.std.specs.List.{AllByRecursion}
 use Rattle.index.specs.Map.{look, room}
 use Rattle.held.specs.declared.table.Record.{Record}
 use Rattle.held.specs.Holdings.{Holding, keys, place_of}
@@ -24,11 +24,11 @@ listed_one (Some x) (Some y) e = let z : x ≡ y = cc in ap Some z
 option_set : (a b : Option ℕ) → IsProp (a ≡ b)
 option_set = Coded-set (coded_via (coded_list coded_ℕ) listed listed_one)
 
-all_prop : (P : ℕ → Type 0) → ((x : ℕ) → IsProp (P x)) → (xs : List ℕ) → IsProp (All P xs)
+all_prop : (P : ℕ → Type 0) → ((x : ℕ) → IsProp (P x)) → (xs : List ℕ) → IsProp (AllByRecursion P xs)
 all_prop P h [] p q = refl
 all_prop P h (x ∷ xs) p q = λ i. (h x p.0 q.0 i, all_prop P h xs p.1 q.1 i)
 
-below_prop : (n : ℕ) (xs : List ℕ) → IsProp (All (λ x. x < n) xs)
+below_prop : (n : ℕ) (xs : List ℕ) → IsProp (AllByRecursion (λ x. x < n) xs)
 below_prop n xs = all_prop (λ x. x < n) (λ x. hlevel props) xs
 
 absent_prop : (x : ℕ) (xs : List ℕ) → IsProp (Absent x xs)

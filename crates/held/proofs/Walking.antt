@@ -1,6 +1,6 @@
 -- One step of a walk along the held places.
 use Rattle.std.proofs.Common.{◌≡◌, ℕ, zero, suc, ◌+◌, ◌-◌, ◌/◌, ◌^◌, ◌<◌, ◌≤◌, true, false, cond, eqb, List, [], ◌∷◌, length, get_or, set, replicate, Some, None, vec_items, Option, sym, refl, ap, ◌∙◌, subst, ⊎_elim, arith}
-use Rattle.std.specs.List.{AllByRecursion as All}
+use Rattle.std.specs.List.{AllByRecursion}
 use Rattle.std.proofs.lemmas.List.{length-set, length-replicate, get_or-replicate, get_or-set_same, get_or-set_other, get_or_read}
 use Rattle.std.proofs.lemmas.List.Sums.{count_by-le-length}
 use Rattle.std.proofs.lemmas.Bool.{cases_eq, eq-eqb, ne_eqb, cond-true, cond-false}
@@ -47,10 +47,10 @@ counting_start h place e =
 
 module _ (t : List Record) (size place left : ℕ) (all sizes : List ℕ) (c : Counting t size place left all sizes) (some : 0 < left) where
   pub counting_place : place < size
-  counting_place = (subst (All (λ p. p < size)) (walk_is t place left some) c.low).0
+  counting_place = (subst (AllByRecursion (λ p. p < size)) (walk_is t place left some) c.low).0
 
   pub counting_pool : key_in t place / 2 ^ 28 < 16
-  counting_pool = let l = (subst (All (λ k. k < 2 ^ 32)) (keys_are t place left some) c.small).0 in omega arith
+  counting_pool = let l = (subst (AllByRecursion (λ k. k < 2 ^ 32)) (keys_are t place left some) c.small).0 in omega arith
 
   pub counting_room : (pool : ℕ) → pool ≡ key_in t place / 2 ^ 28 → get_or sizes pool 0 + 1 ≤ pool_size all pool
   counting_room pool e =
@@ -67,8 +67,8 @@ module _ (t : List Record) (size place left : ℕ) (all sizes : List ℕ) (c : C
       let sixteen = c.sixteen in
       subst (λ x. Counting t size x (left - 1) all (set sizes pool (get_or sizes pool 0 + 1))) (sym f)
       (record {
-        low = (subst (All (λ p. p < size)) (walk_is t place left some) c.low).1;
-        small = (subst (All (λ k. k < 2 ^ 32)) (keys_are t place left some) c.small).1;
+        low = (subst (AllByRecursion (λ p. p < size)) (walk_is t place left some) c.low).1;
+        small = (subst (AllByRecursion (λ k. k < 2 ^ 32)) (keys_are t place left some) c.small).1;
         sixteen = length-set sizes pool (get_or sizes pool 0 + 1) ∙ c.sixteen;
         sums = λ p lp.
             let s = c.sums p lp in
@@ -97,7 +97,7 @@ seeking_start h place pool e =
 
 module _ (t : List Record) (size place left pool : ℕ) (all : List ℕ) (c : Seeking t size place left pool all) (some : 0 < left) where
   pub seeking_place : place < size
-  seeking_place = (subst (All (λ p. p < size)) (walk_is t place left some) c.low).0
+  seeking_place = (subst (AllByRecursion (λ p. p < size)) (walk_is t place left some) c.low).0
 
   pub seeking_found : key_in t place / 2 ^ 28 ≡ pool → Some (key_in t place) ≡ oldest_of pool all
   seeking_found e =
@@ -108,7 +108,7 @@ module _ (t : List Record) (size place left pool : ℕ) (all : List ℕ) (c : Se
   seeking_step next ne f =
       subst (λ x. Seeking t size x (left - 1) pool all) (sym f)
       (record {
-        low = (subst (All (λ p. p < size)) (walk_is t place left some) c.low).1;
+        low = (subst (AllByRecursion (λ p. p < size)) (walk_is t place left some) c.low).1;
         oldest = sym (ap (oldest_of pool) (keys_are t place left some)
             ∙ cond-false (eqb (key_in t place / 2 ^ 28) pool) (Some (key_in t place)) (oldest_of pool (keys_from t (newer_in t place) (left - 1))) (ne_eqb (key_in t place / 2 ^ 28) pool ne)) ∙ c.oldest;
       })

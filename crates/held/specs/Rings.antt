@@ -1,6 +1,6 @@
 -- Rings of places, linked both ways.
 use Rattle.std.specs.Prelude.{◌≡◌, ℕ, zero, suc, ◌<◌, List, [], ◌∷◌, ◌≢◌}
-use Rattle.std.specs.List.{AllByRecursion as All}
+use Rattle.std.specs.List.{AllByRecursion}
 
 -- from a on, the places follow one another up to b
 abbrev pub Links : (newer older : ℕ → ℕ) → ℕ → List ℕ → ℕ → Type 0
@@ -13,7 +13,7 @@ walk newer at zero = []
 walk newer at (suc n) = at ∷ walk newer (newer at) n
 
 abbrev pub Absent : ℕ → List ℕ → Type 0
-Absent x xs = All (λ y. y ≢ x) xs
+Absent x xs = AllByRecursion (λ y. y ≢ x) xs
 
 -- no number stands twice
 abbrev pub Apart : List ℕ → Type 0
@@ -26,9 +26,9 @@ pub record Rings (newer older : ℕ → ℕ) (size e f : ℕ) (one two : List �
   pub two_links : Links newer older f two f
   pub one_apart : Apart one
   pub two_apart : Apart two
-  pub disjoint : All (λ p. Absent p two) one
-  pub one_below : All (λ p. p < size) one
-  pub two_below : All (λ p. p < size) two
+  pub disjoint : AllByRecursion (λ p. Absent p two) one
+  pub one_below : AllByRecursion (λ p. p < size) one
+  pub two_below : AllByRecursion (λ p. p < size) two
 
 -- p is taken out from between its neighbours
 pub record Unlinked (newer older : ℕ → ℕ) (p : ℕ) (newer' older' : ℕ → ℕ) : Type 0 where

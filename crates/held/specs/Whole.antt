@@ -1,6 +1,6 @@
 -- What always holds of the table and the index of the held keys.
 use Rattle.std.specs.Prelude.{◌≡◌, ℕ, ◌+◌, ◌-◌, ◌^◌, ◌<◌, ◌≤◌, List, [], ◌∷◌, map, length}
-use Rattle.std.specs.List.{AllByRecursion as All}
+use Rattle.std.specs.List.{AllByRecursion}
 use Rattle.index.specs.Map.{look, room}
 use Rattle.held.specs.declared.table.Record.{Record}
 use Rattle.held.specs.Holdings.{Holding, keys, place_of}
@@ -26,7 +26,7 @@ pub record WholeIn (size count : ℕ) (table : List Record) (filed : List (ℕ �
   pub small : size ≤ 4096
   pub long : length table ≡ size + 2
   pub roomy : size ≤ room slots nodes
-  pub keys_small : All (λ k. k < 2 ^ 32) (keys (held_at table (places size count table)))
+  pub keys_small : AllByRecursion (λ k. k < 2 ^ 32) (keys (held_at table (places size count table)))
   pub keys_apart : Apart (keys (held_at table (places size count table)))
   pub filed_count : length filed ≡ count
   pub filed_places : (k : ℕ) → look k filed ≡ place_of k (held_at table (places size count table))

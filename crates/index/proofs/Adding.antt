@@ -1,13 +1,13 @@
 -- A tree stays sound as a node or a slot is made a child.
-use Rattle.std.proofs.Common.{◌≡◌, ℕ, zero, suc, ◌+◌, ◌-◌, ◌*◌, ◌/◌, ◌%◌, ◌^◌, ◌<◌, ◌≤◌, Bool, true, false, cond, ◌⊎◌, List, [], ◌∷◌, ◌++◌, length, get_or, set, sym, refl, ap, ◌∙◌, subst, inl, inr, ⊎_elim, arith}
+use Rattle.std.proofs.Common.{◌≡◌, ℕ, suc, ◌+◌, ◌-◌, ◌*◌, ◌^◌, ◌<◌, ◌≤◌, List, ◌∷◌, length, get_or, set, sym, ap, ◌∙◌, subst, ⊎_elim, arith}
 use Rattle.std.proofs.lemmas.List.{length-map, length-set, length-append, get_or-set_same, get_or-set_other, ext_get_or}
 use Rattle.std.proofs.lemmas.Bool.{cases_lt, cases_eq}
 use Rattle.index.specs.declared.node.Node.{Node}
 use Rattle.index.specs.declared.slot.Head.{Head}
-use Rattle.index.specs.Links.{up, Linked}
+use Rattle.index.specs.Links.{Linked}
 use Rattle.index.specs.Nodes.{path_in, parent_in, child_in, free_in, Masked}
 use Rattle.index.specs.Slots.{marks, mark_in, slot_parent_in, slot_free_in}
-use Rattle.index.specs.Sound.{path_at, parent_at, SoundIn, Stacked, filed}
+use Rattle.index.specs.Sound.{path_at, parent_at, SoundIn, filed}
 use Rattle.index.proofs.Shape.{Attached, attached}
 use Rattle.index.proofs.Below.{path_node, path_slot, parent_node, parent_slot, path_past, marks_at}
 use Rattle.index.proofs.Keys.{filed_add}

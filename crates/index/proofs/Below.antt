@@ -1,15 +1,15 @@
 -- Below each node in use lies a key, so that the nodes count the leading parts.
-use Rattle.std.proofs.Common.{◌≡◌, ℕ, zero, suc, ◌+◌, ◌-◌, ◌*◌, ◌/◌, ◌%◌, ◌^◌, ◌<◌, ◌≤◌, Bool, true, false, cond, ltb, ◌⊎◌, List, [], ◌∷◌, map, length, get_or, sym, refl, ap, ◌∙◌, subst, inl, inr, ⊎_elim, arith}
-use Rattle.std.proofs.lemmas.List.{get_or_past, length-map}
-use Rattle.std.proofs.lemmas.Bool.{cases_lt, cases_eq, cases_Bool, lt-ltb, le-ltb, cond-true, cond-false, both_ways}
+use Rattle.std.proofs.Common.{◌≡◌, ℕ, zero, suc, ◌+◌, ◌-◌, ◌*◌, ◌%◌, ◌^◌, ◌<◌, ◌≤◌, true, false, ltb, ◌⊎◌, List, [], ◌∷◌, length, get_or, sym, refl, ap, ◌∙◌, subst, inl, inr, ⊎_elim, arith}
+use Rattle.std.proofs.lemmas.List.{get_or_past}
+use Rattle.std.proofs.lemmas.Bool.{cases_lt, cases_eq, cases_Bool, lt-ltb, le-ltb, cond-true, cond-false}
 use Rattle.index.specs.declared.node.Node.{Node}
 use Rattle.index.specs.declared.slot.Head.{Head}
-use Rattle.index.specs.Links.{up, Linked}
-use Rattle.index.specs.Nodes.{path_in, parent_in, child_in, free_in}
-use Rattle.index.specs.Slots.{marks, mark_in, slot_parent_in, slot_free_in, no_head}
+use Rattle.index.specs.Links.{up}
+use Rattle.index.specs.Nodes.{path_in, parent_in, child_in}
+use Rattle.index.specs.Slots.{marks, mark_in, slot_parent_in, no_head}
 use Rattle.index.specs.Sound.{path_at, parent_at, SoundIn, filed}
-use Rattle.index.specs.Keys.{lead, shares, missing}
-use Rattle.index.proofs.Steps.{up_le, up_pos, up_step, up_up, up_same, within_child, within_parent, within_up, lead_up, up_to_lead, lead_zero}
+use Rattle.index.specs.Keys.{shares, missing}
+use Rattle.index.proofs.Steps.{up_pos, up_up, up_same, within_child, within_parent, within_up, lead_up, up_to_lead, lead_zero}
 use Rattle.index.specs.Nexts.{Within}
 use Rattle.index.specs.Descents.{Descended}
 use Rattle.index.proofs.Shape.{none_at, none_below, above}

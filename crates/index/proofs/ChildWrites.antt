@@ -1,9 +1,9 @@
 -- What a write to one child of a node, and to its mask, leaves.
-use Rattle.std.proofs.Common.{◌≡◌, ℕ, ◌<◌, ◌⊎◌, List, length, get_or, set, sym, refl, ap, ◌∙◌, subst, inl, inr, ⊎_elim}
+use Rattle.std.proofs.Common.{◌≡◌, ℕ, ◌<◌, List, length, get_or, set, sym, refl, ap, ◌∙◌, subst, ⊎_elim}
 use Rattle.std.proofs.lemmas.List.{length-set, get_or-set_same, get_or-set_other, get_or_default}
 use Rattle.std.proofs.lemmas.Bool.{cases_eq}
 use Rattle.index.specs.declared.node.Node.{Node}
-use Rattle.index.specs.Nodes.{none, path_in, parent_in, child_in, free_in, mask_in, Agrees, Masked}
+use Rattle.index.specs.Nodes.{none, path_in, parent_in, child_in, free_in, Agrees, Masked}
 
 -- the node with another child at the step, and another mask
 abbrev pub with_child : Node → ℕ → ℕ → ℕ → Node

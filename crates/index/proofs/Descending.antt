@@ -1,17 +1,12 @@
 -- The steps of the way down to a key.
-use Rattle.std.proofs.Common.{◌≡◌, ℕ, zero, suc, ◌+◌, ◌-◌, ◌*◌, ◌/◌, ◌%◌, ◌^◌, ◌<◌, ◌≤◌, true, false, cond, ltb, ◌⊎◌, List, length, sym, refl, ap, ◌∙◌, subst, inl, inr, ⊎_elim, arith}
-use lib.Bits.{bit_and}
-use Rattle.std.proofs.lemmas.Nat.{and_mask}
-use Rattle.std.proofs.lemmas.Bool.{cases_lt, cases_eq}
+use Rattle.std.proofs.Common.{◌≡◌, ℕ, zero, suc, ◌+◌, ◌*◌, ◌%◌, ◌^◌, ◌<◌, ◌≤◌, List, length, ap, ◌∙◌, ⊎_elim, arith}
+use Rattle.std.proofs.lemmas.Bool.{cases_lt}
 use Rattle.index.specs.declared.node.Node.{Node}
 use Rattle.index.specs.declared.slot.Head.{Head}
-use Rattle.index.specs.Links.{up, Linked}
-use Rattle.index.specs.Nodes.{path_in, parent_in, child_in, free_in}
-use Rattle.index.specs.Slots.{marks, mark_in, slot_parent_in, slot_free_in}
-use Rattle.index.specs.Sound.{path_at, parent_at, SoundIn}
-use Rattle.index.specs.Descents.{Descended}
+use Rattle.index.specs.Links.{up}
+use Rattle.index.specs.Nodes.{child_in}
+use Rattle.index.specs.Sound.{path_at, SoundIn}
 use Rattle.index.proofs.Steps.{up_le, up_pos, up_step}
-use Rattle.index.proofs.Shape.{none_below}
 
 module _ {ns : List Node} {hs : List Head} {unused vacant unfilled : ℕ} (s : SoundIn ns hs unused vacant unfilled) (some : 0 < length ns) where
   pub at_node : (h key item : ℕ) → 0 < h → h ≤ 8 → key < 2 ^ 32 → path_at ns hs item ≡ up h (2 ^ 32 + key) → item < length ns

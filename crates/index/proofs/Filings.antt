@@ -1,18 +1,17 @@
 -- What `place` owes.
-use Rattle.std.proofs.Common.{◌≡◌, ℕ, zero, suc, ◌+◌, ◌-◌, ◌*◌, ◌/◌, ◌%◌, ◌^◌, ◌<◌, ◌≤◌, Bool, true, false, cond, ◌⊎◌, List, [], ◌∷◌, ◌++◌, length, get_or, set, vec_items, sym, refl, ap, ◌∙◌, subst, inl, inr, ⊎_elim, arith}
+use Rattle.std.proofs.Common.{◌≡◌, ℕ, suc, ◌+◌, ◌-◌, ◌^◌, ◌<◌, ◌≤◌, List, length, get_or, set, vec_items, sym, refl, ap, ◌∙◌, inl, inr, ⊎_elim, arith}
 use Rattle.std.proofs.lemmas.List.{length-map, length-set, set-get_or}
-use Rattle.std.proofs.lemmas.Bool.{cases_lt, cases_eq}
-use Rattle.index.specs.declared.node.Node.{Node}
+use Rattle.std.proofs.lemmas.Bool.{cases_lt}
 use Rattle.index.specs.declared.slot.Head.{Head}
 use Rattle.index.specs.declared.tree.Tree.{Tree}
 use Rattle.index.specs.declared.tree.FileRefusal.TheVariants.{NoSlot, TooFewNodes}
 use Rattle.index.specs.Links.{up}
-use Rattle.index.specs.Keys.{shares, parts, missing}
+use Rattle.index.specs.Keys.{parts, missing}
 use Rattle.index.specs.Slots.{marks, mark_in}
-use Rattle.index.specs.Sound.{Sound, SoundIn, heads_of, records_of, filed}
+use Rattle.index.specs.Sound.{Sound, heads_of, records_of, filed}
 use Rattle.index.specs.Filing.{Whole, Placed, Refused, keys_of, nodes_of, slots_of}
 use Rattle.index.specs.Descents.{Descended}
-use Rattle.index.proofs.Below.{missing_at, end_none, end_found, marks_at}
+use Rattle.index.proofs.Below.{missing_at, end_none, marks_at}
 use Rattle.index.proofs.Keys.{parts_in, filed_add}
 
 -- what a new key adds to the parts

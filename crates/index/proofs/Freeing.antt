@@ -1,10 +1,10 @@
 -- A tree stays sound as a slot or a node is freed.
-use Rattle.std.proofs.Common.{◌≡◌, ℕ, zero, suc, ◌+◌, ◌-◌, ◌*◌, ◌/◌, ◌%◌, ◌^◌, ◌<◌, ◌≤◌, Bool, true, false, cond, ◌⊎◌, List, [], ◌∷◌, ◌++◌, length, get_or, set, sym, refl, ap, ◌∙◌, subst, inl, inr, ⊎_elim, arith}
+use Rattle.std.proofs.Common.{◌≡◌, ℕ, suc, ◌+◌, ◌-◌, ◌/◌, ◌%◌, ◌^◌, ◌<◌, ◌≤◌, List, ◌∷◌, length, get_or, set, sym, ap, ◌∙◌, subst, ⊎_elim, arith}
 use Rattle.std.proofs.lemmas.List.{length-map, length-append, get_or_past}
 use Rattle.std.proofs.lemmas.Bool.{cases_lt, cases_eq}
 use Rattle.index.specs.declared.node.Node.{Node}
 use Rattle.index.specs.declared.slot.Head.{Head}
-use Rattle.index.specs.Links.{up, Linked}
+use Rattle.index.specs.Links.{Linked}
 use Rattle.index.specs.Nodes.{path_in, parent_in, child_in, free_in, none, Masked}
 use Rattle.index.specs.Slots.{marks, mark_in, slot_parent_in, slot_free_in}
 use Rattle.index.specs.Sound.{path_at, parent_at, SoundIn, Stacked, filed}

@@ -1,15 +1,13 @@
 -- A new tree is whole.
-use Rattle.std.proofs.Common.{◌≡◌, ℕ, zero, suc, ◌+◌, ◌-◌, ◌*◌, ◌/◌, ◌%◌, ◌^◌, ◌<◌, ◌≤◌, leb, ◌⊎◌, List, [], ◌∷◌, length, get_or, vec_items, sym, refl, ap, ◌∙◌, subst, inl, inr, ⊎_elim, arith}
+use Rattle.std.proofs.Common.{◌≡◌, ℕ, suc, ◌+◌, ◌-◌, ◌^◌, ◌<◌, ◌≤◌, leb, List, [], ◌∷◌, length, get_or, vec_items, refl, ap, ◌∙◌, ⊎_elim, arith}
 use Rattle.std.proofs.lemmas.List.{get_or_past}
 use Rattle.std.proofs.lemmas.Bool.{cases_lt, cases_eq, cond-false, lt-leb}
 use Rattle.index.specs.declared.node.Node.{Node}
-use Rattle.index.specs.declared.slot.Head.{Head}
 use Rattle.index.specs.declared.tree.Tree.{Tree}
 use Rattle.index.specs.Keys.{parts}
-use Rattle.index.specs.Links.{Linked}
-use Rattle.index.specs.Nodes.{path_in, parent_in, child_in, free_in, mask_in, none, bit, Masked}
+use Rattle.index.specs.Nodes.{path_in, child_in, free_in, mask_in, none, bit, Masked}
 use Rattle.index.specs.Slots.{marks, mark_in, slot_free_in, no_head}
-use Rattle.index.specs.Sound.{path_at, parent_at, SoundIn, Sound, heads_of, filed}
+use Rattle.index.specs.Sound.{path_at, Sound, heads_of, filed}
 use Rattle.index.specs.Filing.{Whole, keys_of, nodes_of, slots_of}
 use Rattle.index.proofs.Masks.{bit_zero}
 use Rattle.index.proofs.Below.{path_node, path_slot, marks_at}

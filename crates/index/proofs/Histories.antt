@@ -1,14 +1,14 @@
 -- Nothing leaks, after any calls.
-use Rattle.std.proofs.Common.{◌≡◌, ℕ, zero, suc, ◌+◌, ◌-◌, ◌<◌, ◌≤◌, min, Bool, true, false, cond, eqb, ltb, leb, ◌⊎◌, List, [], ◌∷◌, ◌++◌, length, is_some, is_ok, Some, None, Ok, Err, Result, sym, refl, ap, ◌∙◌, subst, inl, inr, ⊎_elim, arith}
+use Rattle.std.proofs.Common.{◌≡◌, ℕ, suc, ◌+◌, ◌-◌, ◌<◌, ◌≤◌, true, false, cond, eqb, ltb, leb, List, [], ◌∷◌, ◌++◌, length, is_ok, None, Ok, Err, Result, sym, refl, ap, ◌∙◌, subst, ⊎_elim, arith}
 use Rattle.std.proofs.lemmas.List.{length-append}
-use Rattle.std.proofs.lemmas.Bool.{cases_lt, cases_eq, cases_Bool, cases_order, both_ways, cond-true, cond-false, eq-eqb, ne_eqb, le-leb, lt-leb, le-ltb, lt-ltb}
+use Rattle.std.proofs.lemmas.Bool.{cases_lt, cases_Bool, both_ways, cond-true, cond-false, eq-eqb, le-leb, lt-leb, le-ltb, lt-ltb}
 use Rattle.index.specs.declared.tree.FileRefusal.{FileRefusal}
 use Rattle.index.specs.declared.tree.FileRefusal.TheVariants.{NoSlot, TooFewNodes}
-use Rattle.index.specs.Keys.{lead, shares, parts, missing}
+use Rattle.index.specs.Keys.{shares, parts, missing}
 use Rattle.index.proofs.Keys.{parts_in}
 use Rattle.index.specs.Map.{look, put, without, keys, ruling, used}
 use Rattle.index.specs.History.{Call, filing, removal, after, run, removals, Leakless, NothingLeaks}
-use Rattle.index.proofs.Views.{Above, Rises, rises_put, rises_without, keys_append, put_split, without_split, put_keys, shares_look, without_none, length_keys, look_not_shares}
+use Rattle.index.proofs.Views.{Rises, rises_put, rises_without, keys_append, put_split, without_split, put_keys, shares_look, without_none, length_keys, look_not_shares}
 use Rattle.index.proofs.Meaning.{used_empty, used_some, used_none, missing_none}
 
 -- the keys are removed one by one, from the first

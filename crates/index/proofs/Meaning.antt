@@ -1,13 +1,11 @@
 -- From a tree to what its index stands for.
-use Rattle.std.proofs.Common.{◌≡◌, ℕ, zero, suc, ◌+◌, ◌-◌, ◌^◌, ◌<◌, ◌≤◌, min, Bool, true, false, cond, eqb, ltb, leb, ◌⊎◌, List, [], ◌∷◌, length, get_or, set, is_some, is_ok, Some, None, Ok, Err, vec_items, Option, Result, sym, refl, ap, ◌∙◌, subst, inl, inr, ⊎_elim, arith, MatchOption}
+use Rattle.std.proofs.Common.{◌≡◌, ℕ, ◌+◌, ◌-◌, ◌^◌, ◌<◌, ◌≤◌, min, Bool, true, false, cond, eqb, ltb, leb, List, [], ◌∷◌, length, get_or, set, is_some, is_ok, Some, None, Ok, Err, vec_items, Option, Result, sym, refl, ap, ◌∙◌, subst, inl, inr, ⊎_elim, arith, MatchOption}
 use Rattle.std.proofs.lemmas.List.{length-map, nil_from_length}
-use Rattle.std.proofs.lemmas.Bool.{cases_lt, cases_eq, cases_Bool, both_ways, cond-true, cond-false, lt-leb, le-leb, le-ltb, lt-ltb, eq-eqb, ne_eqb}
-use Rattle.index.specs.declared.node.Node.{Node}
-use Rattle.index.specs.declared.slot.Head.{Head}
+use Rattle.std.proofs.lemmas.Bool.{cases_lt, cases_Bool, both_ways, cond-true, cond-false, lt-leb, le-leb, le-ltb, lt-ltb, eq-eqb, ne_eqb}
 use Rattle.index.specs.declared.tree.Tree.{Tree}
 use Rattle.index.specs.Keys.{shares, parts, missing}
 use Rattle.index.specs.Slots.{marks, mark_in}
-use Rattle.index.specs.Sound.{heads_of, records_of, filed, path_at}
+use Rattle.index.specs.Sound.{heads_of, records_of, path_at}
 use Rattle.index.specs.Filing.{Whole, WholeIn, Placed, Removed, Refused, keys_of, nodes_of, slots_of}
 use Rattle.index.specs.Map.{look, put, without, from, keys, used, ruling, room}
 use Rattle.index.specs.View.{pairs, sorted}

@@ -1,14 +1,14 @@
 -- The slots in use with their records.
-use Rattle.std.proofs.Common.{◌≡◌, ℕ, zero, suc, ◌+◌, ◌-◌, ◌^◌, ◌<◌, ◌≤◌, Bool, true, false, cond, ◌||◌, eqb, ltb, leb, ◌⊎◌, List, [], ◌∷◌, ◌++◌, length, get_or, set, Some, None, Option, sym, refl, ap, ◌∙◌, subst, inl, inr, ⊎_elim, arith}
-use Rattle.std.proofs.lemmas.List.{get_or-set_same, get_or-set_other, length-set, length-map}
-use Rattle.std.proofs.lemmas.Bool.{cases_eq, cases_lt, cases_Bool, le-leb, lt-leb, leb-true, cond-true, cond-false, both_ways}
-use Rattle.index.specs.Keys.{lead, shares, parts, missing}
+use Rattle.std.proofs.Common.{◌≡◌, ℕ, zero, suc, ◌+◌, ◌-◌, ◌^◌, ◌<◌, ◌≤◌, true, false, leb, ◌⊎◌, List, [], ◌∷◌, length, get_or, set, Some, None, sym, refl, ap, ◌∙◌, subst, ⊎_elim, arith}
+use Rattle.std.proofs.lemmas.List.{get_or-set_same, get_or-set_other, length-set}
+use Rattle.std.proofs.lemmas.Bool.{cases_eq, cases_Bool, le-leb, leb-true, cond-true, cond-false, both_ways}
+use Rattle.index.specs.Keys.{shares}
 use Rattle.index.specs.Sound.{filed}
-use Rattle.index.specs.Map.{look, put, without, from, keys}
+use Rattle.index.specs.Map.{look, put, without, keys}
 use Rattle.index.specs.View.{pairs, sorted}
 use Rattle.index.proofs.Keys.{filed_has, filed_from}
 use Rattle.index.proofs.Steps.{lead_zero}
-use Rattle.index.proofs.Views.{look_hit, look_miss, Apart, Rises, rises_sorted, rises_put, rises_without, look_sorted, look_put_same, look_put_other, look_without_same, look_without_other, same_from_looks}
+use Rattle.index.proofs.Views.{look_hit, look_miss, Apart, rises_sorted, rises_put, rises_without, look_sorted, look_put_same, look_put_other, look_without_same, look_without_other, same_from_looks}
 
 -- each key stands at one slot
 pub record Lawful (ms : List ℕ) : Type 0 where

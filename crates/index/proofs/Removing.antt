@@ -1,16 +1,16 @@
 -- What `remove` owes.
-use Rattle.std.proofs.Common.{◌≡◌, ℕ, zero, suc, ◌+◌, ◌-◌, ◌*◌, ◌/◌, ◌%◌, ◌^◌, ◌<◌, ◌≤◌, ◌⊎◌, List, [], ◌∷◌, ◌++◌, length, get_or, set, vec_items, sym, refl, ap, ◌∙◌, subst, inl, inr, ⊎_elim, arith}
+use Rattle.std.proofs.Common.{◌≡◌, ℕ, suc, ◌+◌, ◌-◌, ◌%◌, ◌^◌, ◌<◌, ◌≤◌, ◌⊎◌, List, ◌∷◌, ◌++◌, set, vec_items, sym, ap, ◌∙◌, inl, inr, ⊎_elim, arith}
 use Rattle.std.proofs.lemmas.List.{length-map}
-use Rattle.std.proofs.lemmas.Bool.{cases_lt, cases_eq}
+use Rattle.std.proofs.lemmas.Bool.{cases_eq}
 use Rattle.index.specs.declared.node.Node.{Node}
 use Rattle.index.specs.declared.slot.Head.{Head}
 use Rattle.index.specs.declared.tree.Tree.{Tree}
 use Rattle.index.specs.Links.{up}
-use Rattle.index.specs.Keys.{shares, parts, missing}
+use Rattle.index.specs.Keys.{parts, missing}
 use Rattle.index.specs.Nodes.{path_in, child_in}
 use Rattle.index.specs.Slots.{marks, mark_in}
 use Rattle.index.specs.Sound.{Sound, SoundIn, heads_of, records_of, filed}
-use Rattle.index.specs.Filing.{Whole, Removed, keys_of, nodes_of, slots_of}
+use Rattle.index.specs.Filing.{Whole, Removed, keys_of, nodes_of}
 use Rattle.index.proofs.Steps.{within_up}
 use Rattle.index.proofs.Below.{missing_at, marks_at, mark_within, path_node}
 use Rattle.index.proofs.Keys.{parts_in, parts_some, filed_drop}

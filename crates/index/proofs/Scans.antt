@@ -1,20 +1,18 @@
 -- The steps of a search for the next key.
-use Rattle.std.proofs.Common.{◌≡◌, ℕ, zero, suc, ◌+◌, ◌-◌, ◌*◌, ◌/◌, ◌%◌, ◌^◌, ◌<◌, ◌≤◌, true, false, ◌⊎◌, List, length, get_or, vec_items, sym, refl, ap, ◌∙◌, subst, inl, inr, ⊎_elim, arith}
-use Rattle.std.proofs.lemmas.Bool.{cases_lt, cases_eq}
+use Rattle.std.proofs.Common.{◌≡◌, ℕ, suc, ◌+◌, ◌-◌, ◌*◌, ◌/◌, ◌%◌, ◌^◌, ◌<◌, ◌≤◌, List, length, vec_items, sym, refl, ap, ◌∙◌, subst, ⊎_elim, arith}
+use Rattle.std.proofs.lemmas.Bool.{cases_lt}
 use Rattle.index.specs.declared.node.Node.{Node}
 use Rattle.index.specs.declared.slot.Head.{Head}
 use Rattle.index.specs.declared.tree.Tree.{Tree}
-use Rattle.index.specs.Links.{up, Linked}
-use Rattle.index.specs.Keys.{shares}
-use Rattle.index.specs.Filing.{keys_of}
+use Rattle.index.specs.Links.{up}
 use Rattle.index.specs.Nexts.{Within, Ahead, Scan, Past, First}
 use Rattle.index.specs.Nodes.{path_in, parent_in, child_in}
 use Rattle.index.specs.Slots.{marks, mark_in, slot_parent_in}
-use Rattle.index.specs.Sound.{path_at, parent_at, SoundIn, Sound, heads_of, filed}
+use Rattle.index.specs.Sound.{path_at, SoundIn, Sound, heads_of}
 use Rattle.index.specs.Descents.{Descended}
-use Rattle.index.proofs.Steps.{up_le, up_pos, up_step, up_mono, within_child, within_parent, within_up}
+use Rattle.index.proofs.Steps.{up_pos, up_mono, within_child, within_parent, within_up}
 use Rattle.index.proofs.Shape.{none_at, above, parent_of}
-use Rattle.index.proofs.Below.{path_node, path_slot, path_past, parent_node, marks_at, mark_within, big, some_child}
+use Rattle.index.proofs.Below.{path_node, path_slot, path_past, parent_node, marks_at, mark_within, big}
 use Rattle.index.proofs.Freeing.{at_parent}
 use Rattle.index.proofs.Keys.{filed_has}
 

@@ -37,14 +37,12 @@ agrees_prop mask children p q =
 
 sound_prop : (ns : List Node) (hs : List Head) (unused vacant unfilled : ℕ) → IsProp (SoundIn ns hs unused vacant unfilled)
 sound_prop ns hs unused vacant unfilled p q =
-    let ln = linked_prop (length ns) (path_at ns hs) (parent_at ns hs) (child_in ns) in
-    let a : IsProp (0 < length ns → Linked (length ns) (path_at ns hs) (parent_at ns hs) (child_in ns)) = search (props, ln) in
     let b : IsProp ((i : ℕ) → i < length ns → (i ≡ unfilled → ⊥) → 1 < path_in ns i → ((c : ℕ) → c < 16 → child_in ns i c ≡ 0) → ⊥) = hlevel props in
     let c : IsProp (length ns ≡ 0 → (p : ℕ) → mark_in hs p ≡ 0) = hlevel props in
     let d : IsProp (length ns + length hs < 2 ^ 32) = hlevel props in
     let e : IsProp (vacant + length (filed (marks hs)) ≡ length hs) = hlevel props in
     λ i. record {
-      linked = a p.linked q.linked i;
+      linked = λ h. linked_prop (length ns) (path_at ns hs) (parent_at ns hs) (child_in ns) (p.linked h) (q.linked h) i;
       masked = λ j. agrees_prop (mask_in ns j) (get_or ns j none).children (p.masked j) (q.masked j) i;
       nonempty = b p.nonempty q.nonempty i;
       empty = c p.empty q.empty i;

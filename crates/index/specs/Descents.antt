@@ -1,5 +1,5 @@
 -- Where the way to a key ends.
-use Rattle.std.specs.Prelude.{◌≡◌, ℕ, suc, ◌+◌, ◌-◌, ◌%◌, ◌^◌, ◌<◌, ◌≤◌, List, [], ◌∷◌, length}
+use Rattle.std.specs.Prelude.{◌≡◌, ℕ, suc, ◌+◌, ◌%◌, ◌^◌, ◌<◌, ◌≤◌, List, length}
 use Rattle.index.specs.declared.node.Node.{Node}
 use Rattle.index.specs.declared.slot.Head.{Head}
 use Rattle.index.specs.Links.{up}

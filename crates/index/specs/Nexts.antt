@@ -6,7 +6,7 @@ use Rattle.index.specs.declared.tree.Tree.{Tree}
 use Rattle.index.specs.Filing.{keys_of}
 use Rattle.index.specs.Keys.{shares}
 use Rattle.index.specs.Links.{up}
-use Rattle.index.specs.Nodes.{path_in, child_in}
+use Rattle.index.specs.Nodes.{path_in}
 use Rattle.index.specs.Slots.{mark_in}
 use Rattle.index.specs.Sound.{path_at, heads_of}
 

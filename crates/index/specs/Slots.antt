@@ -1,5 +1,5 @@
 -- What a record slot of a list holds. Past the list's end all is 0.
-use Rattle.std.specs.Prelude.{ℕ, List, [], map, slice_index_or}
+use Rattle.std.specs.Prelude.{ℕ, List, map, slice_index_or}
 use Rattle.index.specs.declared.slot.Head.{Head}
 use Rattle.index.specs.declared.slot.Slot.{Slot}
 

@@ -1,5 +1,5 @@
 -- What an index stands for.
-use Rattle.std.specs.Prelude.{◌≡◌, ℕ, ◌-◌, ◌^◌, cond, List, [], ◌∷◌, nat_le}
+use Rattle.std.specs.Prelude.{ℕ, ◌-◌, ◌^◌, cond, List, [], ◌∷◌, nat_le}
 use Rattle.index.specs.Filing.{nodes_of, slots_of}
 use Rattle.index.specs.Slots.{marks}
 use Rattle.index.specs.Sound.{heads_of, records_of}

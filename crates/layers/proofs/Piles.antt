@@ -1,6 +1,6 @@
 -- The law of piles, from that of each layer.
-use Rattle.std.proofs.Common.{◌≡◌, ℕ, ◌%◌, Bool, true, false, cond, not, eqb, List, is_some, Some, None, Option, sym, refl, ap, ◌∙◌, subst, inl, inr}
-use Rattle.std.proofs.lemmas.Bool.{and_from, and_parts, cases_Bool, cond-true, cond-false, le-leb, leb-true, not-true}
+use Rattle.std.proofs.Common.{◌≡◌, ℕ, ◌%◌, Bool, true, false, cond, not, eqb, List, is_some, Some, Option, sym, refl, ap, ◌∙◌, subst}
+use Rattle.std.proofs.lemmas.Bool.{and_from, and_parts, cond-true, cond-false, le-leb, leb-true, not-true}
 use Rattle.page.specs.Counts.{one_more}
 use Rattle.page.specs.Keys.{ephemeral}
 use Rattle.page.specs.declared.counts.Count.{Count}
@@ -10,7 +10,7 @@ use Rattle.backend.specs.States.{View, decode}
 use Rattle.backend.specs.declared.refusals.Cause.TheVariants.{OverLimit}
 use Rattle.backend.specs.declared.refusals.Refusal.{Refusal}
 use Rattle.backend.specs.Codec.{decode_encode}
-use Rattle.layers.specs.Divider.{even_side, odd_side, sides, moved, divider_rules}
+use Rattle.layers.specs.Divider.{even_side, odd_side, moved, divider_rules}
 use Rattle.layers.specs.Piles.{Pile, base, quota, divider, rules_of, BasesKeep, AtLimit, Follows, QuotaLaw, SideLaw, base_of, base_state, stopped_by, Answered, ReachesBase, PilesLaw}
 use Rattle.layers.specs.Quota.{below, over, at_limit, quota_rules}
 use Rattle.layers.specs.Limits.{at_below, no_page, quota_keeps}

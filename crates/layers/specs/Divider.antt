@@ -4,7 +4,7 @@ use Rattle.page.specs.Counts.{one_more}
 use Rattle.page.specs.Keys.{ephemeral}
 use Rattle.page.specs.declared.counts.Count.{Count}
 use Rattle.backend.specs.Rules.{Entry, Rules}
-use Rattle.backend.specs.States.{View, encode, decode}
+use Rattle.backend.specs.States.{encode, decode}
 use Rattle.layers.specs.declared.divider.Divider.{Divider}
 
 abbrev pub divider_state : {A B : Type 0} → (A → List ℕ) → (B → List ℕ) → Divider A B → List ℕ

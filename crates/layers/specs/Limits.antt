@@ -1,5 +1,5 @@
 -- Quota keeps the meaning of a backend that keeps it below.
-use Rattle.std.specs.Prelude.{◌≡◌, ℕ, ◌^◌, ◌<◌, Bool, true, false, cond, not, ◌&&◌, List, [], length, is_some, Some, None, Option, nat_eq, refl}
+use Rattle.std.specs.Prelude.{◌≡◌, ℕ, Bool, true, false, cond, List, [], is_some, Some, None, Option, nat_eq, refl}
 use Rattle.std.proofs.Common.{inl, inr, sym, ap, subst, ◌∙◌, arith}
 use Rattle.std.proofs.lemmas.Bool.{and_parts, cond-true, cond-false, not-true, true≢false}
 use Rattle.page.specs.Counts.{count_of, one_more}

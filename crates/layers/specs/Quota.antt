@@ -1,12 +1,11 @@
 -- Quota: a limit on the pages that each pool may hold in the backend below.
-use Rattle.std.specs.Prelude.{ℕ, Bool, cond, not, ◌&&◌, List, is_some, Some, Option, nat_le, slice_index}
+use Rattle.std.specs.Prelude.{ℕ, Bool, cond, not, ◌&&◌, List, is_some, Some, nat_le, slice_index}
 use Rattle.page.specs.Counts.{one_more}
 use Rattle.page.specs.Keys.{pool_of}
 use Rattle.page.specs.declared.counts.Count.{Count}
 use Rattle.backend.specs.Rules.{Rules, held, pool_pages}
-use Rattle.backend.specs.States.{View, encode, decode}
+use Rattle.backend.specs.States.{encode, decode}
 use Rattle.backend.specs.declared.refusals.Cause.TheVariants.{OverLimit}
-use Rattle.backend.specs.declared.refusals.Refusal.{Refusal}
 use Rattle.layers.specs.declared.quota.Quota.{Quota}
 
 abbrev pub quota_state : {B : Type 0} → (B → List ℕ) → Quota B → List ℕ

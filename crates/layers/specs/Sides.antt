@@ -1,18 +1,17 @@
 -- Divider keeps the meaning of the two backends that keep it on its sides.
-use Rattle.std.specs.Prelude.{◌≡◌, ℕ, ◌+◌, ◌*◌, ◌/◌, ◌%◌, ◌^◌, ◌<◌, Bool, true, false, cond, not, ◌&&◌, ◌⊎◌, List, [], ◌++◌, Some, None, count_by, filter, Option, ◌==◌, nat_eq, refl}
+use Rattle.std.specs.Prelude.{◌≡◌, ℕ, ◌+◌, ◌/◌, ◌%◌, ◌^◌, Bool, true, false, cond, not, ◌&&◌, List, [], ◌++◌, Some, None, count_by, filter, ◌==◌, nat_eq, refl}
 use Rattle.std.proofs.Common.{inl, inr, sym, ap, subst, ◌∙◌, add-zero, zero-add}
 use Rattle.std.proofs.Math.Nat.{div-div-eq-div-mul}
 use Rattle.std.proofs.ByRecursion.{All-append, all_kept_by, All-weaker, kept_by_passes}
 use Rattle.std.proofs.lemmas.List.Sums.{sum_by-append}
 use Rattle.std.proofs.lemmas.Bool.{and_parts, and_from, cond-true, cond-false, eqb-true, not_from_true, not_from_false}
-use Rattle.std.specs.List.{AllByRecursion as All}
+use Rattle.std.specs.List.{AllByRecursion}
 use Rattle.page.specs.Counts.{count_of, one_more}
 use Rattle.page.specs.Keys.{pool_of, ephemeral}
 use Rattle.page.specs.declared.counts.Count.{Count}
 use Rattle.backend.specs.Meaning.{Meaning, New, Step, PutLaw, GetLaw, DropLaw, Kept, Apart, Sized}
 use Rattle.backend.specs.Rules.{Entry, Rules, Valid, lookup, held, pool_object, pool_pages}
 use Rattle.backend.specs.States.{View, encode, decode}
-use Rattle.backend.specs.declared.refusals.Refusal.{Refusal}
 use Rattle.backend.specs.Codec.{decode_encode}
 use Rattle.layers.specs.Divider.{even_side, odd_side, sides, moved, even, odd, divider_rules}
 use Rattle.backend.proofs.Entries.{lookup_first, lookup_second, lookup_kept, lookup_left, apart_kept, apart_append, count_same, count_none}
@@ -36,7 +35,7 @@ apart_both es fs h i =
     (λ e t. lookup_left (λ j. not (ephemeral j)) e.key (not_from_true _ t) fs)
     (filter even es) (kept_by_passes even es))
 
-sized_both : (es fs : List Entry) → All Sized es → All Sized fs → All Sized (both es fs)
+sized_both : (es fs : List Entry) → AllByRecursion Sized es → AllByRecursion Sized fs → AllByRecursion Sized (both es fs)
 sized_both es fs h i = All-append Sized (filter even es) (filter odd fs) (all_kept_by even Sized es h) (all_kept_by odd Sized fs i)
 
 -- a pool's number has the parity of its keys

@@ -3,7 +3,7 @@ use Rattle.std.specs.Prelude.{◌≡◌, ℕ, ◌+◌, ◌*◌, ◌/◌, ◌<◌
 use Rattle.std.proofs.Common.{inl, inr, sym, ap, subst, ◌∙◌, arith}
 use Rattle.std.proofs.ByRecursion.{All-weaker}
 use Rattle.std.proofs.lemmas.Bool.{cond-true, eqb-true, le-leb, lt-leb, lt-ltb}
-use Rattle.std.specs.List.{AllByRecursion as All}
+use Rattle.std.specs.List.{AllByRecursion}
 use Rattle.page.specs.Memory.{pages_in, start_of, page_at, OthersKept, put_page, outcome, whole_page}
 use Rattle.page.specs.declared.memory.PageRefusal.{PageRefusal}
 use Rattle.page.specs.declared.memory.PageRefusal.TheVariants.{BadLength}

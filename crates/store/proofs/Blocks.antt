@@ -1,8 +1,7 @@
 -- Pages taken out one by one.
-use Rattle.std.proofs.Common.{◌≡◌, ℕ, zero, ◌+◌, ◌*◌, ◌/◌, ◌<◌, ◌≤◌, Bool, true, false, cond, not, eqb, List, [], ◌∷◌, is_some, Some, None, filter, Option, sym, refl, ap, ◌∙◌, inl, inr, div-mul-le_self, arith}
-use native.Mathlib.Nat.{mul-div_left}
+use Rattle.std.proofs.Common.{◌≡◌, ℕ, ◌*◌, ◌/◌, ◌<◌, ◌≤◌, Bool, true, false, cond, not, eqb, List, [], ◌∷◌, Some, None, Option, sym, refl, ap, ◌∙◌, inl, inr, div-mul-le_self, arith}
 use Rattle.std.proofs.lemmas.Nat.{le-div}
-use Rattle.std.proofs.lemmas.Bool.{cases_lt, cond-true, cond-false, eq-eqb, eqb-true, eqb-false, not_from_false, false≢true, true≢false}
+use Rattle.std.proofs.lemmas.Bool.{cases_lt, cond-true, cond-false, eq-eqb, eqb-true, not_from_false}
 use Rattle.page.specs.declared.keys.Key.{Key}
 use Rattle.backend.specs.Listing.{without, one}
 use Rattle.backend.specs.Rules.{Entry, lookup}

@@ -1,5 +1,5 @@
 -- A get of a buffer that is a page.
-use Rattle.std.proofs.Common.{◌≡◌, ℕ, Bool, true, false, cond, ◌&&◌, List, is_some, Ok, Err, Option, Result, sym, refl, ap, ◌∙◌}
+use Rattle.std.proofs.Common.{◌≡◌, ℕ, Bool, true, false, cond, ◌&&◌, List, is_some, Ok, Err, sym, refl, ap, ◌∙◌}
 use Rattle.std.proofs.lemmas.Bool.{cond-true, cond-false, false≢true}
 use Rattle.page.specs.Keys.{ephemeral}
 use Rattle.backend.specs.Listing.{ListState, write_state, without, one, listed, list_rules}

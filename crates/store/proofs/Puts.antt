@@ -1,15 +1,14 @@
 -- A put: its key goes, room is made, and the page joins if it has a place.
-use Rattle.std.proofs.Common.{◌≡◌, ℕ, Bool, true, false, cond, not, ◌&&◌, List, [], ◌∷◌, ◌++◌, is_some, Some, None, Ok, Err, Option, Result, sym, refl, ap, ◌∙◌, arith}
+use Rattle.std.proofs.Common.{◌≡◌, ℕ, Bool, true, false, cond, not, ◌&&◌, List, [], ◌∷◌, ◌++◌, is_some, Some, None, Ok, Err, Option, sym, refl, ap, ◌∙◌, arith}
 use Rattle.std.proofs.lemmas.Bool.{cond-true, eq-eqb, false≢true}
 use Rattle.page.specs.declared.counts.Count.{Count}
 use Rattle.backend.specs.Listing.{ListState, write_state, without, one, room_made, cleared, joined_if, list_rules}
 use Rattle.backend.specs.Outcomes.{granted_unless, is_page}
 use Rattle.backend.specs.Rules.{Entry, lookup}
 use Rattle.backend.specs.declared.refusals.Cause.TheVariants.{NoPlace}
-use Rattle.backend.specs.declared.refusals.Refusal.{Refusal}
 use Rattle.backend.proofs.Evictions.{thinned_none, thinned_room, lookup_named}
 use Rattle.backend.specs.Finding.{joins}
-use Rattle.store.specs.StatesLemmas.{with_entries, offered_once_more, put_next_is, put_refusal_is}
+use Rattle.store.specs.StatesLemmas.{offered_once_more, put_next_is, put_refusal_is}
 
 module _ (lack : List ℕ → List Entry → List ℕ → Bool) (v : ListState) (k : ℕ) (p : List ℕ) where
   abbrev lacks : List Entry → Bool

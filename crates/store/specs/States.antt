@@ -1,6 +1,6 @@
 -- The state of a store.
 use Rattle.std.specs.Prelude.{ℕ, List}
-use Rattle.backend.specs.Listing.{ListState, write_state}
+use Rattle.backend.specs.Listing.{write_state}
 use Rattle.backend.specs.Rules.{Entry}
 use Rattle.store.specs.declared.store.Store.{Store}
 

@@ -1,14 +1,13 @@
 -- The rules of the list of held pages at a state that a store wrote.
-use Rattle.std.specs.Prelude.{◌≡◌, ℕ, ◌+◌, Bool, cond, List, [], ◌∷◌, Some, None, count_by, Option, ◌==◌, nat_eq, refl}
+use Rattle.std.specs.Prelude.{◌≡◌, ℕ, ◌+◌, Bool, cond, List, [], ◌∷◌, Some, None, count_by, ◌==◌, nat_eq, refl}
 use Rattle.std.proofs.Common.{sym, ap, ◌∙◌}
 use Rattle.std.proofs.lemmas.List.Sums.{sum_by-cons}
 use Rattle.page.specs.Keys.{pool_of}
 use Rattle.page.specs.Counts.{one_more}
 use Rattle.backend.specs.Victims.{pool_size}
 use Rattle.backend.specs.Listing.{keys_of, ListState, write_state, read_state, without, cleared, put_entries, got_entries, relisted, listed, list_rules}
-use Rattle.backend.specs.Rules.{Entry, Rules}
+use Rattle.backend.specs.Rules.{Entry}
 use Rattle.backend.specs.declared.refusals.Cause.TheVariants.{NoPlace}
-use Rattle.backend.specs.declared.refusals.Refusal.{Refusal}
 use Rattle.backend.proofs.Keeping.{read_write}
 
 abbrev pub with_entries : ListState → List Entry → ListState

@@ -1,5 +1,5 @@
 use Rattle.std.proofs.Common.{◌≡◌, ℕ, ◌*◌, List, ◌++◌, length, get_or, drop, ap, ◌∙◌, subst, arith}
-use Rattle.std.specs.List.{flat_map, AllByRecursion as All}
+use Rattle.std.specs.List.{flat_map, AllByRecursion}
 use Rattle.std.proofs.ByRecursion.{All-more}
 use Rattle.std.proofs.lemmas.List.{take_all}
 use Rattle.page.specs.Counts.{count_text}
@@ -30,5 +30,5 @@ returns c =
       bytes =
           c.loop-count.invariant.1 ∙ ap (λ (cs : List Count). flat_map value_text cs ++ drop c.loop-count.start c.args.buffer.now) all
           ∙ ap (λ (n : ℕ). flat_map value_text counts ++ drop n c.args.buffer.now) end;
-      fits = subst (λ cs. All Counted cs) all c.loop-count.invariant.2;
+      fits = subst (λ cs. AllByRecursion Counted cs) all c.loop-count.invariant.2;
     }

@@ -1,6 +1,6 @@
-use Rattle.std.proofs.Common.{◌%◌, ap, ◌∙◌, arith, rules}
+use Rattle.std.proofs.Common.{◌%◌, ap, ◌∙◌}
 use Rattle.std.proofs.lemmas.Nat.{and_mask}
 use Rattle.index.proofs.descend.step.Goals as goal
 
 pub returns : goal.returns
-returns c = and_mask c.path-above.result 4 ∙ ap (λ x. x % 16) c.path-above.ensures
+returns c = and_mask c.path_above.result 4 ∙ ap (λ x. x % 16) c.path_above.ensures

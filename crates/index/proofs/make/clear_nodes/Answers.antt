@@ -1,4 +1,4 @@
-use Rattle.std.proofs.Common.{◌≡◌, ℕ, ◌<◌, length, vec_items, sym, refl, ap, ◌∙◌, subst, arith}
+use Rattle.std.proofs.Common.{vec_items, arith}
 use Rattle.index.proofs.Fresh.{masked_none}
 use Rattle.index.proofs.make.clear_nodes.Goals as goal
 

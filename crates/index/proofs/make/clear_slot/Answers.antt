@@ -1,11 +1,11 @@
-use Rattle.std.proofs.Common.{◌≡◌, ◌<◌, length, vec_items, refl, ap, arith}
+use Rattle.std.proofs.Common.{◌<◌, length, vec_items, ap, arith}
 use Rattle.std.proofs.lemmas.List.{length-map}
 use Rattle.index.specs.declared.slot.Head.{Head}
 use Rattle.index.proofs.Heads.{head_here, head_rest, head_len}
 use Rattle.index.proofs.make.clear_slot.Goals as goal
 
-pub index-mut-requires : goal.index-mut-requires
-index-mut-requires g c =
+pub index_mut-requires : goal.index_mut-requires
+index_mut-requires g c =
     let v = c.args.slots.now.ok.0 in
     omega (arith, length-map (vec_items c.args.slots.now) (λ s. s.head))
 
@@ -13,8 +13,8 @@ pub returns : goal.returns
 returns g c =
     let ss = vec_items c.args.slots.now in
     let l : c.args.i < length ss = omega (arith, length-map ss (λ s. s.head)) in
-    let old = c.index-mut.result.now in
-    let e = c.index-mut.ensures.value in
+    let old = c.index_mut.result.now in
+    let e = c.index_mut.ensures.value in
     let h : Head = record { mark = 0; parent = 0; free = c.args.free } in
     record {
       mark = ap (λ x. x.mark) (head_here ss c.args.i old l e h);

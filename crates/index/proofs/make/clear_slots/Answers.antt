@@ -1,4 +1,4 @@
-use Rattle.std.proofs.Common.{◌≡◌, ℕ, ◌<◌, length, vec_items, sym, refl, ap, ◌∙◌, arith}
+use Rattle.std.proofs.Common.{vec_items, arith}
 use Rattle.std.proofs.lemmas.List.{length-map}
 use Rattle.index.proofs.make.clear_slots.Goals as goal
 
@@ -7,8 +7,8 @@ loop-k-init g c =
     let v = c.args.slots.now.ok.0 in
     (omega (arith, length-map (vec_items c.args.slots.now) (λ s. s.head)), (λ j l. absurd (omega arith)), (λ j l. absurd (omega arith)))
 
-pub overflow-cast-k : goal.overflow-cast-k
-overflow-cast-k g c =
+pub overflow_cast-k : goal.overflow_cast-k
+overflow_cast-k g c =
     let v = c.args.slots.now.ok.0 in
     omega (arith, length-map (vec_items c.args.slots.now) (λ s. s.head))
 

@@ -1,19 +1,19 @@
-use Rattle.std.proofs.Common.{◌≡◌, ℕ, ◌-◌, ◌*◌, ◌%◌, ◌^◌, ◌<◌, length, get_or, set, vec_items, sym, refl, ap, ◌∙◌, arith}
-use lib.Bits.{bit_and, bit_or}
+use Rattle.std.proofs.Common.{ℕ, ◌-◌, ◌*◌, ◌%◌, ◌^◌, ◌<◌, length, set, vec_items, ap, arith}
+use lib.Bits.{bit_and}
 use Rattle.std.proofs.lemmas.Nat.{one_shl, pow_below}
 use Rattle.std.proofs.lemmas.List.{get_or-set_same, get_or-set_other}
 use Rattle.index.specs.declared.node.Node.{Node}
-use Rattle.index.proofs.Masks.{agrees_set, agrees_clear}
+use Rattle.index.proofs.Masks.{agrees_clear}
 use Rattle.index.proofs.ChildWrites.{written, masked_after}
 use Rattle.index.proofs.node.clear_child.Goals as goal
 
 pub returns : goal.returns
 returns c =
     let ns = vec_items c.args.nodes.now in
-    let old : Node = c.index-mut-n.result.now in
+    let old : Node = c.index_mut-n.result.now in
     let v = c.args.nodes.now.ok.0 in
     let l : c.args.node < length ns = omega arith in
-    let e = c.index-mut-n.ensures.value in
+    let e = c.index_mut-n.ensures.value in
     let inside : c.args.step < length old.children = omega arith in
     let m : ℕ = (bit_and old.mask (2 ^ 32 - 1 - (1 * 2 ^ c.args.step) % 2 ^ 32)) in
     let w = written ns c.args.node old l e c.args.step inside 0 m in

@@ -1,4 +1,4 @@
-use Rattle.std.proofs.Common.{◌≡◌, ℕ, ◌/◌, ◌^◌, ◌<◌, length, get_or, vec_items, sym, refl, ap, ◌∙◌, subst, arith}
+use Rattle.std.proofs.Common.{◌≡◌, ◌/◌, ◌^◌, ◌<◌, length, get_or, vec_items, sym, refl, ap, ◌∙◌, subst, arith}
 use lib.Count.{count_trailing_zeros}
 use Rattle.std.proofs.lemmas.List.{get_or_default}
 use Rattle.index.specs.declared.node.Node.{Node}
@@ -14,7 +14,7 @@ returns c =
     let l : c.args.node < length ns = omega arith in
     let w : node ≡ get_or ns c.args.node none = c.index.ensures ∙ get_or_default ns c.args.node node none l in
     let a : Agrees node.mask node.children = subst (λ x. Agrees x.mask x.children) (sym w) (c.requires.masked c.args.node) in
-    let n = next_step node.mask c.args.from (count_trailing_zeros 32 (node.mask / 2 ^ c.args.from)) c.min.result node.children a refl c.min.ensures c.requires.from-within in
+    let n = next_step node.mask c.args.from (count_trailing_zeros 32 (node.mask / 2 ^ c.args.from)) c.min.result node.children a refl c.min.ensures c.requires.from_within in
     record {
       bound = n.0;
       passed = λ d lo hi. ap (λ x. get_or x.children d 0) (sym w) ∙ n.1 d lo hi;

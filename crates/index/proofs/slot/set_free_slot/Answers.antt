@@ -1,11 +1,11 @@
-use Rattle.std.proofs.Common.{◌≡◌, ◌<◌, length, vec_items, refl, ap, arith}
+use Rattle.std.proofs.Common.{◌<◌, length, vec_items, refl, ap, arith}
 use Rattle.std.proofs.lemmas.List.{length-map}
 use Rattle.index.specs.declared.slot.Head.{Head}
 use Rattle.index.proofs.Heads.{head_here, head_rest, head_field, head_len, head_records}
 use Rattle.index.proofs.slot.set_free_slot.Goals as goal
 
-pub index-mut-requires : goal.index-mut-requires
-index-mut-requires g c =
+pub index_mut-requires : goal.index_mut-requires
+index_mut-requires g c =
     let v = c.args.slots.now.ok.0 in
     omega (arith, length-map (vec_items c.args.slots.now) (λ s. s.head))
 
@@ -13,8 +13,8 @@ pub returns : goal.returns
 returns g c =
     let ss = vec_items c.args.slots.now in
     let l : c.args.at < length ss = omega (arith, length-map ss (λ s. s.head)) in
-    let old = c.index-mut.result.now in
-    let e = c.index-mut.ensures.value in
+    let old = c.index_mut.result.now in
+    let e = c.index_mut.ensures.value in
     let h : Head = record { mark = old.head.mark; parent = old.head.parent; free = c.args.slot } in
     record {
       marks = head_field ss c.args.at old l e h (λ x. x.mark) refl;

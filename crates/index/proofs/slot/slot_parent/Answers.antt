@@ -1,4 +1,4 @@
-use Rattle.std.proofs.Common.{◌≡◌, ◌<◌, length, vec_items, ap, arith}
+use Rattle.std.proofs.Common.{◌<◌, length, vec_items, ap, arith}
 use Rattle.std.proofs.lemmas.List.{length-map}
 use Rattle.index.proofs.Heads.{head_was}
 use Rattle.index.proofs.slot.slot_parent.Goals as goal

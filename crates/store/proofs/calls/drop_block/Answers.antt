@@ -13,7 +13,7 @@ returns-then-number-size g c =
     let size = c.args.size in
     let block = c.number.result / size in
     let same =
-    block_passed size block c.requires es c.from-number-first.result.number c.from-number-first.ensures.value
+    block_passed size block c.requires es c.from_number-first.result.number c.from_number-first.ensures.value
     c.in-Some.next c.number-in-Some.result c.number-in-Some.ensures c.in-Some.ensures c.if-number-size.true in
     record {
       entries = sym same ∙ (c.loop-next.invariant.0 ∙ ap (λ (n : ℕ). without (in_block size (n / size)) start) c.number.ensures);
@@ -43,7 +43,7 @@ returns g c =
     let start = g.H.HeldPages.entries c.args.pages.now in
     let size = c.args.size in
     let block = c.number.result / size in
-    let same = block_ended size block c.requires es c.from-number-first.result.number c.from-number-first.ensures.value c.in-default.ensures in
+    let same = block_ended size block c.requires es c.from_number-first.result.number c.from_number-first.ensures.value c.in_default.ensures in
     record {
       entries = sym same ∙ (c.loop-next.invariant.0 ∙ ap (λ (n : ℕ). without (in_block size (n / size)) start) c.number.ensures);
       fixed = c.loop-next.invariant.1;

@@ -1,12 +1,12 @@
-use Rattle.std.proofs.Common.{◌≡◌, ℕ, Bool, true, false, List, length, sym, ap, ◌∙◌, arith}
+use Rattle.std.proofs.Common.{◌≡◌, ℕ, Bool, true, List, length, sym, ap, ◌∙◌, arith}
 use Rattle.backend.specs.Listing.{room_made}
 use Rattle.backend.specs.Rules.{Entry}
 use Rattle.backend.proofs.Evictions.{room_enough, room_none, room_more, shorter, victim_held}
 use Rattle.store.proofs.calls.make_room.Goals as goal
 
-pub returns-in-default : goal.returns-in-default
-returns-in-default g c = record {
-  entries = sym (room_none _ _ (sym c.in-default.ensures)) ∙ c.loop-pages.invariant.0;
+pub returns-in_default : goal.returns-in_default
+returns-in_default g c = record {
+  entries = sym (room_none _ _ (sym c.in_default.ensures)) ∙ c.loop-pages.invariant.0;
   fixed = c.loop-pages.invariant.1;
 }
 

@@ -15,8 +15,8 @@ use Rattle.dedup.proofs.Joining.{without_pushed, fixed_same, refused_lacks, join
 use Rattle.dedup.specs.Kept.{lacks_places}
 use Rattle.dedup.proofs.calls.SharedPagesHeldPages.append.Goals as goal
 
-pub returns-in-default : goal.returns-in-default
-returns-in-default c =
+pub returns-in_default : goal.returns-in_default
+returns-in_default c =
     let b = c.args.self.now in
     let noted = vec_items b.content_at in
     let g : ℕ → ℕ = λ q. get_or noted q 0 in
@@ -24,7 +24,7 @@ returns-in-default c =
     let area = contents_area b.contents in
     let H = holdings b.held in
     let page = c.args.page.now in
-    let e = c.in-default.ensures in
+    let e = c.in_default.ensures in
     let lack = dedup_lack (shared_fixed b) (shared_entries b) page in
     let why : (is_some (place_of c.args.key.number H) ≡ true) ⊎ (lack ≡ true) =
     elim e.cases.0 [
@@ -37,22 +37,22 @@ returns-in-default c =
       fixed = fixed_same (size_of b.held) (length users) _ _ area _ e.size refl refl;
     }
 
-pub invariant-of-self-in-default-acquire : goal.invariant-of-self-in-default-acquire
-invariant-of-self-in-default-acquire c =
+pub invariant-of-self-in_default-acquire : goal.invariant-of-self-in_default-acquire
+invariant-of-self-in_default-acquire c =
     let b = c.args.self.now in
     let noted = vec_items b.content_at in
     let k = c.args.key.number in
     let H = holdings b.held in
     let p = c.in-Some.place in
     let e = c.in-Some.ensures in
-    let a = c.in-default-acquire.ensures.outcome in
+    let a = c.in_default-acquire.ensures.outcome in
     let back : holdings c.remove.new.self ≡ H = c.remove.ensures.after ∙ (ap (without_key k) e.cases.4 ∙ without_pushed k p H e.cases.0) in (
       (λ i. ap (λ (us : List ℕ). get_or us i 0) a.0 ∙ (b.counted i ∙ ap (λ (R : List Holding). uses i (contents_by (λ q. get_or noted q 0) R)) (sym back))),
       (b.long ∙ sym (c.remove.ensures.size ∙ e.size), tt),
     )
 
-pub returns-in-default-acquire : goal.returns-in-default-acquire
-returns-in-default-acquire c =
+pub returns-in_default-acquire : goal.returns-in_default-acquire
+returns-in_default-acquire c =
     let b = c.args.self.now in
     let noted = vec_items b.content_at in
     let g : ℕ → ℕ = λ q. get_or noted q 0 in
@@ -63,10 +63,10 @@ returns-in-default-acquire c =
     let p = c.in-Some.place in
     let page = c.args.page.now in
     let e = c.in-Some.ensures in
-    let a = c.in-default-acquire.ensures.outcome in
+    let a = c.in_default-acquire.ensures.outcome in
     let lack = dedup_lack (shared_fixed b) (shared_entries b) page in
     let lacks : lack ≡ true =
-    refused_lacks users area noted H b.counted (pages_apart b.contents) (shared_fixed b) page refl c.if-page-ne-PAGE-BYTES.false
+    refused_lacks users area noted H b.counted (pages_apart b.contents) (shared_fixed b) page refl c.if-page-ne-PAGE_BYTES.false
     (omega (arith, count_fits b.held, size_small b.held)) a.2 in
     let back : holdings c.remove.new.self ≡ H = c.remove.ensures.after ∙ (ap (without_key k) e.cases.4 ∙ without_pushed k p H e.cases.0) in
     record {
@@ -102,7 +102,7 @@ returns c =
     let p = c.in-Some.place in
     let i = c.in-Some-acquire.content in
     let page = c.args.page.now in
-    let whole = eq-eqb _ _ c.if-page-ne-PAGE-BYTES.false in
+    let whole = eq-eqb _ _ c.if-page-ne-PAGE_BYTES.false in
     let e = c.in-Some.ensures in
     let a = c.in-Some-acquire.ensures in
     let within : p < length noted = omega (arith, e.cases.2, b.long) in
@@ -116,5 +116,5 @@ returns c =
           ∙ joined_entries users area noted H b.counted (pages_apart b.contents) k p i page _ _ e.cases.3 within a.outcome.1 (a.holds i refl) a.others;
       fixed =
           fixed_same (size_of b.held) (length users) _ _ area _ e.size a.same_size
-          (joined_behind users area noted H b.counted (pages_apart b.contents) k p i page _ _ e.cases.3 within a.outcome.1 c.if-page-ne-PAGE-BYTES.false (size_paged b.contents));
+          (joined_behind users area noted H b.counted (pages_apart b.contents) k p i page _ _ e.cases.3 within a.outcome.1 c.if-page-ne-PAGE_BYTES.false (size_paged b.contents));
     }

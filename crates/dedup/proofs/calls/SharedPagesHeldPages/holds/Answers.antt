@@ -14,4 +14,4 @@ returns c =
     let users = users_of b.contents in
     let area = contents_area b.contents in
     let H = holdings b.held in
-    c.is-some.ensures ∙ (ap is_some c.find.ensures ∙ sym (holds_entries (λ q. page_at area (g q)) c.args.key.number H))
+    c.is_some.ensures ∙ (ap is_some c.find.ensures ∙ sym (holds_entries (λ q. page_at area (g q)) c.args.key.number H))

@@ -19,27 +19,27 @@ returns-then-count-size c =
     sym (lacks_places users area g H b.counted (pages_apart b.contents) (shared_fixed b) (size_of b.held) c.args.page.now refl refl
     (omega (arith, c.if-count-size.true, c.count.ensures, c.size.ensures)))
 
-pub returns-then-in-use-size : goal.returns-then-in-use-size
-returns-then-in-use-size c =
+pub returns-then-in_use-size : goal.returns-then-in_use-size
+returns-then-in_use-size c =
     let b = c.args.self.now in
     let noted = vec_items b.content_at in
     let g : ℕ → ℕ = λ q. get_or noted q 0 in
     let users = users_of b.contents in
     let area = contents_area b.contents in
     let H = holdings b.held in
-    flipped c.is-none.result (is_some c.find.result) c.is-none.ensures
+    flipped c.is_none.result (is_some c.find.result) c.is_none.ensures
     ∙ lack_is users area g H b.counted (pages_apart b.contents) (shared_fixed b) (size_of b.held) c.args.page.now refl refl
-    (omega (arith, c.if-count-size.false, c.count.ensures, c.size.ensures)) (omega (arith, c.if-in-use-size.true, c.in-use.ensures, c.size-2.ensures))
+    (omega (arith, c.if-count-size.false, c.count.ensures, c.size.ensures)) (omega (arith, c.if-in_use-size.true, c.in_use.ensures, c.size-2.ensures))
     c.find.result c.find.ensures
 
-pub returns-else-in-use-size : goal.returns-else-in-use-size
-returns-else-in-use-size c =
+pub returns-else-in_use-size : goal.returns-else-in_use-size
+returns-else-in_use-size c =
     let b = c.args.self.now in
     let noted = vec_items b.content_at in
     let g : ℕ → ℕ = λ q. get_or noted q 0 in
     let users = users_of b.contents in
     let area = contents_area b.contents in
     let H = holdings b.held in
-    lt-leb c.size-2.result c.in-use.result c.if-in-use-size.false
+    lt-leb c.size-2.result c.in_use.result c.if-in_use-size.false
     ∙ sym (has_content users area g H b.counted (pages_apart b.contents) (shared_fixed b) (size_of b.held) c.args.page.now refl refl
-    (omega (arith, c.if-count-size.false, c.count.ensures, c.size.ensures)) (omega (arith, c.if-in-use-size.false, c.in-use.ensures, c.size-2.ensures)))
+    (omega (arith, c.if-count-size.false, c.count.ensures, c.size.ensures)) (omega (arith, c.if-in_use-size.false, c.in_use.ensures, c.size-2.ensures)))

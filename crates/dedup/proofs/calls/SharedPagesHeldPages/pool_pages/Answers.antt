@@ -15,4 +15,4 @@ returns c =
     let users = users_of b.contents in
     let area = contents_area b.contents in
     let H = holdings b.held in
-    c.pool-count.ensures ∙ ap (λ (ks : List ℕ). pool_size ks c.args.pool) (sym (keys_entries (λ q. page_at area (g q)) H))
+    c.pool_count.ensures ∙ ap (λ (ks : List ℕ). pool_size ks c.args.pool) (sym (keys_entries (λ q. page_at area (g q)) H))

@@ -36,11 +36,11 @@ invariant-of-self c =
       (b.long ∙ sym e.size, tt),
     )
 
-pub invariant-of-self-in-default : goal.invariant-of-self-in-default
-invariant-of-self-in-default c =
+pub invariant-of-self-in_default : goal.invariant-of-self-in_default
+invariant-of-self-in_default c =
     let b = c.args.self.now in
     let noted = vec_items b.content_at in
-    let e = c.in-default.ensures in
+    let e = c.in_default.ensures in
     let same : holdings c.remove.new.self ≡ holdings b.held = e.after ∙ without_none c.args.key.number (holdings b.held) (sym e.value) in (
       (λ i. b.counted i ∙ ap (λ (H : List Holding). uses i (contents_by (λ q. get_or noted q 0) H)) (sym same)),
       (b.long ∙ sym e.size, tt),
@@ -61,11 +61,11 @@ returns-in-Some c =
           (ap length u.users ∙ length-set (users_of b.contents) _ _) (ap (drop (start_of (length (users_of b.contents)))) u.area);
     }
 
-pub returns-in-default : goal.returns-in-default
-returns-in-default c =
+pub returns-in_default : goal.returns-in_default
+returns-in_default c =
     let b = c.args.self.now in
     let f : ℕ → List ℕ = λ q. page_at (contents_area b.contents) (get_or (vec_items b.content_at) q 0) in
-    let e = c.in-default.ensures in
+    let e = c.in_default.ensures in
     record {
       entries = ap (entries_by f) e.after ∙ without_entries f c.args.key.number (holdings b.held);
       fixed = fixed_same (size_of b.held) (length (users_of b.contents)) _ _ (contents_area b.contents) _ e.size refl refl;

@@ -20,20 +20,20 @@ pub invariant-of-self : goal.invariant-of-self
 invariant-of-self c =
     let b = c.args.self.now in
     let noted = vec_items b.content_at in
-    let e = c.in-default.ensures in
+    let e = c.in_default.ensures in
     let same : holdings c.remove.new.self ≡ holdings b.held = e.after ∙ without_none c.args.key.number (holdings b.held) (sym e.value) in (
       (λ i. b.counted i ∙ ap (λ (H : List Holding). uses i (contents_by (λ q. get_or noted q 0) H)) (sym same)),
       (b.long ∙ sym e.size, tt),
     )
 
-pub returns-in-default : goal.returns-in-default
-returns-in-default c =
+pub returns-in_default : goal.returns-in_default
+returns-in_default c =
     let b = c.args.self.now in
     let f : ℕ → List ℕ = λ q. page_at (contents_area b.contents) (get_or (vec_items b.content_at) q 0) in
     let k = c.args.key.number in
     let out = c.args.out.now in
-    let page = eq-eqb _ _ c.if-out-ne-PAGE-BYTES.false in
-    let e = c.in-default.ensures in
+    let page = eq-eqb _ _ c.if-out-ne-PAGE_BYTES.false in
+    let e = c.in_default.ensures in
     let none = missed f k (holdings b.held) out (sym e.value) in
     record {
       answer = none.0;
@@ -76,7 +76,7 @@ returns c =
     let k = c.args.key.number in
     let p = c.in-Some.place in
     let out = c.args.out.now in
-    let page = eq-eqb _ _ c.if-out-ne-PAGE-BYTES.false in
+    let page = eq-eqb _ _ c.if-out-ne-PAGE_BYTES.false in
     let e = c.in-Some.ensures in
     let u = c.release.ensures in
     let content = get_or_read_under noted p (length noted) c.index-content.result.now 0 c.index-content.ensures (omega (arith, place_below b.held k p (sym e.value), b.long)) refl in

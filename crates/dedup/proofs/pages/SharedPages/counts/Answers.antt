@@ -18,7 +18,7 @@ overflow-cast-held c =
 pub overflow-cast-different : goal.overflow-cast-different
 overflow-cast-different c =
     let b = c.args.self.now in
-    omega (arith, c.in-use.ensures, in_use_le (users_of b.contents), size_limit b.contents)
+    omega (arith, c.in_use.ensures, in_use_le (users_of b.contents), size_limit b.contents)
 
 pub returns : goal.returns
 returns c =
@@ -31,6 +31,6 @@ returns c =
     let stored = in_use_different users area g H b.counted (pages_apart b.contents) in
     record {
       held = exact_is c.count.result (length H) c.count.ensures (omega (arith, count_fits b.held, size_small b.held)) ∙ ap count_of (sym (length_entries (λ q. page_at area (g q)) H));
-      different = exact_is c.in-use.result _ c.in-use.ensures (omega (arith, in_use_le users, size_limit b.contents)) ∙ ap count_of stored;
+      different = exact_is c.in_use.result _ c.in_use.ensures (omega (arith, in_use_le users, size_limit b.contents)) ∙ ap count_of stored;
       stored = stored;
     }

@@ -11,12 +11,12 @@ use Rattle.dedup.proofs.pages.SharedPages.new.Goals as goal
 
 pub invariant-of-result : goal.invariant-of-result
 invariant-of-result c =
-    let h = c.in-ok-held.ensures in
-    let v = c.in-ok-content-at.content-at.ok.0 in
-    let made = c.in-ok-content-at.ensures in
+    let h = c.in_ok-held.ensures in
+    let v = c.in_ok-content_at.content_at.ok.0 in
+    let made = c.in_ok-content_at.ensures in
     let n = made.len in
-    let noted = vec_items c.in-ok-content-at.content-at in
-    let long : length noted ≡ size_of c.in-ok-held.held = omega (arith, c.size.ensures) in (
+    let noted = vec_items c.in_ok-content_at.content_at in
+    let long : length noted ≡ size_of c.in_ok-held.held = omega (arith, c.size.ensures) in (
       (λ i.
           ap (λ (us : List ℕ). get_or us i 0) c.new-contents.ensures.users
           ∙ (get_or_zeros _ i ∙ ap (λ (H : List Holding). uses i (contents_by (λ q. get_or noted q 0) H)) (sym h.0))),
@@ -25,8 +25,8 @@ invariant-of-result c =
 
 pub returns : goal.returns
 returns c =
-    let h = c.in-ok-held.ensures in
-    let noted = vec_items c.in-ok-content-at.content-at in (
+    let h = c.in_ok-held.ensures in
+    let noted = vec_items c.in_ok-content_at.content_at in (
       ap (entries_by (λ q. page_at (contents_area c.new-contents.result) (get_or noted q 0))) h.0,
       h.1,
       ap length c.new-contents.ensures.users ∙ length-replicate _ 0,

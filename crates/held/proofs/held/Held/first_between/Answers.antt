@@ -9,19 +9,19 @@ use Rattle.held.proofs.held.Held.first_between.Goals as goal
 pub returns-then-from-end : goal.returns-then-from-end
 returns-then-from-end c = between_empty (keys (holdings c.args.self.now)) c.args.from c.args.end (omega arith)
 
-pub returns-in-err-key : goal.returns-in-err-key
-returns-in-err-key c =
+pub returns-in_err-key : goal.returns-in_err-key
+returns-in_err-key c =
     let H = holdings c.args.self.now in
-    let f = subst (λ k. FirstHeld k H None) c.from-number.ensures.value c.in-err-key.ensures in
-    rw c.from-residual.ensures (between_first_none H c.args.from c.args.end f)
+    let f = subst (λ k. FirstHeld k H None) c.from_number.ensures.value c.in_err-key.ensures in
+    rw c.from_residual.ensures (between_first_none H c.args.from c.args.end f)
 
 pub returns-then-number-end : goal.returns-then-number-end
 returns-then-number-end c =
     let h = c.args.self.now in
     let H = holdings h in
-    let key = c.in-ok-key.key in
-    let f = subst (λ k. FirstHeld k H (Some key)) c.from-number.ensures.value c.in-ok-key.ensures in
-    let is : key.number ≡ c.from-number-2.result = sym (c.from-number-2.ensures ∙ c.number.ensures) in
+    let key = c.in_ok-key.key in
+    let f = subst (λ k. FirstHeld k H (Some key)) c.from_number.ensures.value c.in_ok-key.ensures in
+    let is : key.number ≡ c.from_number-2.result = sym (c.from_number-2.ensures ∙ c.number.ensures) in
     let low = f.0 in (
       omega arith,
       c.if-number-end.true,
@@ -31,6 +31,6 @@ returns-then-number-end c =
 pub returns-else-number-end : goal.returns-else-number-end
 returns-else-number-end c =
     let H = holdings c.args.self.now in
-    let key = c.in-ok-key.key in
-    let f = subst (λ k. FirstHeld k H (Some key)) c.from-number.ensures.value c.in-ok-key.ensures in
+    let key = c.in_ok-key.key in
+    let f = subst (λ k. FirstHeld k H (Some key)) c.from_number.ensures.value c.in_ok-key.ensures in
     between_first_past H c.args.from c.args.end key f (omega arith)

@@ -8,16 +8,16 @@ use Rattle.held.proofs.held.Held.new.Goals as goal
 pub invariant-of-result : goal.invariant-of-result
 invariant-of-result c =
     let x = c.new-index.result in
-    let t = vec_items c.free-all.new.table in
-    let v = c.in-ok-table.table.ok.0 in
+    let t = vec_items c.free_all.new.table in
+    let v = c.in_ok-table.table.ok.0 in
     let size = c.min-size.result in
-    let made = c.in-ok-table.ensures in
+    let made = c.in_ok-table.ensures in
     let n = made.len in
-    let long : length t ≡ size + 2 = omega (arith, c.free-all.ensures.len) in
+    let long : length t ≡ size + 2 = omega (arith, c.free_all.ensures.len) in
     let is : size ≡ min c.min.result c.room.result = c.min-size.ensures in
     let small : size ≤ 4096 = omega (arith, c.min.ensures) in
     let roomy : size ≤ room (slots x) (nodes x) = omega (arith, c.room.ensures) in
-    (∣ whole_new size t (view x) (slots x) (nodes x) c.free-all.ensures.rings small long roomy c.new-index.ensures.none ∣₁, tt)
+    (∣ whole_new size t (view x) (slots x) (nodes x) c.free_all.ensures.rings small long roomy c.new-index.ensures.none ∣₁, tt)
 
 pub returns : goal.returns
 unfolding holdings
@@ -28,5 +28,5 @@ returns c =
       c.min-size.ensures
           ∙ (ap (λ k. min k c.room.result) c.min.ensures
           ∙ (ap (min (min c.args.most 4096)) c.room.ensures
-          ∙ size_cut c.args.most (length (vec_items c.args.slot-memory)) (length (vec_items c.args.node-memory)) (slots x) (nodes x) z.slots z.nodes)),
+          ∙ size_cut c.args.most (length (vec_items c.args.slot_memory)) (length (vec_items c.args.node_memory)) (slots x) (nodes x) z.slots z.nodes)),
     )

@@ -16,8 +16,8 @@ index-requires c =
 pub loop-left-init : goal.loop-left-init
 loop-left-init c = let h = c.args.self.now in seeking_start h c.index.result.now.newer c.args.pool (oldest_read h c.index.result.now c.index.ensures)
 
-pub key-at-requires : goal.key-at-requires
-key-at-requires c =
+pub key_at-requires : goal.key_at-requires
+key_at-requires c =
     let h = c.args.self.now in
     let v = h.table.ok.0 in
     omega (arith, (whole h).long, seeking_place (vec_items h.table) h.size c.loop-left.place c.loop-left.left c.args.pool (keys (holdings h)) c.loop-left.invariant (omega arith))
@@ -25,12 +25,12 @@ key-at-requires c =
 pub returns-then-pool : goal.returns-then-pool
 returns-then-pool c =
     let h = c.args.self.now in
-    let key = c.from-number-key.ensures.value ∙ c.key-at.ensures in
+    let key = c.from_number-key.ensures.value ∙ c.key_at.ensures in
     let pool = sym (c.pool.ensures ∙ ap pool_of key) ∙ c.if-pool.true in
     ap Some key ∙ seeking_found (vec_items h.table) h.size c.loop-left.place c.loop-left.left c.args.pool (keys (holdings h)) c.loop-left.invariant (omega arith) pool
 
-pub newer-than-place-requires : goal.newer-than-place-requires
-newer-than-place-requires c =
+pub newer_than-place-requires : goal.newer_than-place-requires
+newer_than-place-requires c =
     let h = c.args.self.now in
     let v = h.table.ok.0 in
     omega (arith, (whole h).long, seeking_place (vec_items h.table) h.size c.loop-left.place c.loop-left.left c.args.pool (keys (holdings h)) c.loop-left.invariant (omega arith))
@@ -38,6 +38,6 @@ newer-than-place-requires c =
 pub loop-left-preserved : goal.loop-left-preserved
 loop-left-preserved c =
     let h = c.args.self.now in
-    let key = c.from-number-key.ensures.value ∙ c.key-at.ensures in
+    let key = c.from_number-key.ensures.value ∙ c.key_at.ensures in
     let other : pool_of (key_in (vec_items h.table) c.loop-left.place) ≡ c.args.pool → ⊥ = λ q. c.if-pool.false ((c.pool.ensures ∙ ap pool_of key) ∙ q) in
-    seeking_step (vec_items h.table) h.size c.loop-left.place c.loop-left.left c.args.pool (keys (holdings h)) c.loop-left.invariant (omega arith) c.newer-than-place.result other c.newer-than-place.ensures
+    seeking_step (vec_items h.table) h.size c.loop-left.place c.loop-left.left c.args.pool (keys (holdings h)) c.loop-left.invariant (omega arith) c.newer_than-place.result other c.newer_than-place.ensures

@@ -19,7 +19,7 @@ overflow-add-count c =
 pub returns : goal.returns
 returns c =
     let ks = keys (holdings c.args.self.now) in
-    let none = c.in-default.ensures in
+    let none = c.in_default.ensures in
     let i = c.loop-key.invariant.1 in
     let start : (c.from-from.result * 2 ^ 28) % 2 ^ 64 ≡ c.args.pool * 2 ^ 28 = let e = c.from-from.ensures in let l = c.if-pool-gt15.false in omega arith in
     let all : c.loop-key.count ≡ between ks ((c.from-from.result * 2 ^ 28) % 2 ^ 64) ((c.from-from.result * 2 ^ 28) % 2 ^ 64 + 2 ^ 28) = omega arith in

@@ -16,8 +16,8 @@ index-requires c =
 pub loop-left-init : goal.loop-left-init
 loop-left-init c = let h = c.args.self.now in counting_start h c.index.result.now.newer (oldest_read h c.index.result.now c.index.ensures)
 
-pub key-at-requires : goal.key-at-requires
-key-at-requires c =
+pub key_at-requires : goal.key_at-requires
+key_at-requires c =
     let h = c.args.self.now in
     let v = h.table.ok.0 in
     omega (arith, (whole h).long, counting_place (vec_items h.table) h.size c.loop-left.place c.loop-left.left (keys (holdings h)) c.loop-left.sizes c.loop-left.invariant (omega arith))
@@ -26,11 +26,11 @@ pub overflow-add-sizes : goal.overflow-add-sizes
 overflow-add-sizes c =
     let h = c.args.self.now in
     let ks = keys (holdings h) in
-    let pool = c.pool-pool.ensures ∙ ap pool_of (c.from-number.ensures.value ∙ c.key-at.ensures) in
+    let pool = c.pool-pool.ensures ∙ ap pool_of (c.from_number.ensures.value ∙ c.key_at.ensures) in
     omega (arith, counting_room (vec_items h.table) h.size c.loop-left.place c.loop-left.left ks c.loop-left.sizes c.loop-left.invariant (omega arith) c.pool-pool.result pool, pool_few ks c.pool-pool.result (keys_few h))
 
-pub newer-than-place-requires : goal.newer-than-place-requires
-newer-than-place-requires c =
+pub newer_than-place-requires : goal.newer_than-place-requires
+newer_than-place-requires c =
     let h = c.args.self.now in
     let v = h.table.ok.0 in
     omega (arith, (whole h).long, counting_place (vec_items h.table) h.size c.loop-left.place c.loop-left.left (keys (holdings h)) c.loop-left.sizes c.loop-left.invariant (omega arith))
@@ -38,5 +38,5 @@ newer-than-place-requires c =
 pub loop-left-preserved : goal.loop-left-preserved
 loop-left-preserved c =
     let h = c.args.self.now in
-    let pool = c.pool-pool.ensures ∙ ap pool_of (c.from-number.ensures.value ∙ c.key-at.ensures) in
-    counting_step (vec_items h.table) h.size c.loop-left.place c.loop-left.left (keys (holdings h)) c.loop-left.sizes c.loop-left.invariant (omega arith) c.pool-pool.result c.newer-than-place.result pool c.newer-than-place.ensures
+    let pool = c.pool-pool.ensures ∙ ap pool_of (c.from_number.ensures.value ∙ c.key_at.ensures) in
+    counting_step (vec_items h.table) h.size c.loop-left.place c.loop-left.left (keys (holdings h)) c.loop-left.sizes c.loop-left.invariant (omega arith) c.pool-pool.result c.newer_than-place.result pool c.newer_than-place.ensures

@@ -9,5 +9,5 @@ pub returns : goal.returns
 returns c =
     let ks = keys (holdings c.args.self.now) in
     let pool : c.fullest_even.result ≡ fullest ks
-    = c.fullest_even.ensures ∙ (fullest_alike (λ p. get_or c.pool-sizes.result p 0) (pool_size ks) c.pool-sizes.ensures 7 (omega arith) ∙ sym (fullest_is ks)) in
+    = c.fullest_even.ensures ∙ (fullest_alike (λ p. get_or c.pool_sizes.result p 0) (pool_size ks) c.pool_sizes.ensures 7 (omega arith) ∙ sym (fullest_is ks)) in
     c.oldest_of.ensures ∙ (ap (λ p. oldest_of p ks) pool ∙ sym (victim_is ks))

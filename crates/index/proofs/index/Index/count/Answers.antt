@@ -4,8 +4,8 @@ use Rattle.index.proofs.Unique.{kept}
 use Rattle.index.proofs.Meaning.{view_length, level}
 use Rattle.index.proofs.index.Index.count.Goals as goal
 
-pub overflow-sub-result : goal.overflow-sub-result
-overflow-sub-result g c = omega (arith, (kept c.args.self.now.whole).sound.count)
+pub overflow_sub-result : goal.overflow_sub-result
+overflow_sub-result g c = omega (arith, (kept c.args.self.now.whole).sound.count)
 
 pub returns : goal.returns
 returns g c =

@@ -1,4 +1,4 @@
-use Rattle.std.proofs.Common.{◌≡◌, sym, subst}
+use Rattle.std.proofs.Common.{sym, subst}
 use Rattle.index.specs.Slots.{marks}
 use Rattle.index.specs.Sound.{heads_of, records_of}
 use Rattle.index.proofs.Unique.{kept}
@@ -8,12 +8,12 @@ use Rattle.index.proofs.Meaning.{view_next, level}
 use Rattle.index.proofs.Views.{first_from, rises_sorted}
 use Rattle.index.proofs.index.Index.first_at_or_after.Goals as goal
 
-pub first-at-or-after-requires : goal.first-at-or-after-requires
-first-at-or-after-requires g c = (kept c.args.self.now.whole).sound
+pub first_at_or_after-requires : goal.first_at_or_after-requires
+first_at_or_after-requires g c = (kept c.args.self.now.whole).sound
 
 pub returns : goal.returns
 returns g c =
     let t = c.args.self.now.tree in
     let v = view c.args.self.now in
-    let e = view_next t (records_of t) (kept c.args.self.now.whole) (level t) c.args.key c.first-at-or-after.result c.first-at-or-after.ensures in
+    let e = view_next t (records_of t) (kept c.args.self.now.whole) (level t) c.args.key c.first_at_or_after.result c.first_at_or_after.ensures in
     record { value = e; first = subst (FirstFrom c.args.key v) (sym e) (first_from c.args.key v (rises_sorted (pairs (marks (heads_of t)) (records_of t)))) }

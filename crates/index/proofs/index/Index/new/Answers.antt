@@ -2,8 +2,8 @@ use Rattle.index.specs.Sound.{records_of}
 use Rattle.index.proofs.Meaning.{view_empty, level}
 use Rattle.index.proofs.index.Index.new.Goals as goal
 
-pub invariant-of-result : goal.invariant-of-result
-invariant-of-result g c = (∣ c.new.ensures.whole ∣₁, tt)
+pub invariant_of-result : goal.invariant_of-result
+invariant_of-result g c = record { whole = ∣ c.new.ensures.whole ∣₁ }
 
 pub returns : goal.returns
 returns g c =

@@ -1,9 +1,4 @@
-use Rattle.std.proofs.Common.{◌≡◌, ℕ, zero, suc, ◌+◌, ◌-◌, ◌%◌, ◌^◌, ◌<◌, ◌≤◌, length, vec_items, vec_len, sym, refl, ap, ◌∙◌, subst, arith, rules}
-use lib.Bits.{bit_and}
-use Rattle.std.proofs.lemmas.Nat.{and_mask}
-use Rattle.index.specs.Links.{up}
-use Rattle.index.specs.Nodes.{child_in}
-use Rattle.index.specs.Sound.{path_at}
+use Rattle.std.proofs.Common.{◌≡◌, ◌-◌, refl, arith}
 use Rattle.index.proofs.Descending.{at_node, next_step}
 use Rattle.index.proofs.tree.Tree.descend.Goals as goal
 
@@ -22,7 +17,7 @@ pub child-next-requires : goal.child-next-requires
 child-next-requires g c =
     let v = c.args.self.now.nodes.ok.0 in
     let w = at_node c.requires c.loop-height.invariant.1 c.loop-height.height c.args.key c.loop-height.item (omega arith) (omega arith) (omega arith) c.loop-height.invariant.2 in
-    record { node-within = omega arith; step-within = omega arith }
+    record { node_within = omega arith; step_within = omega arith }
 
 pub returns-then-next-eq0 : goal.returns-then-next-eq0
 returns-then-next-eq0 g c =

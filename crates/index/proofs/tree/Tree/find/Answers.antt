@@ -1,4 +1,4 @@
-use Rattle.std.proofs.Common.{◌≡◌, ◌-◌, ◌<◌, length, vec_items, sym, ap, ◌∙◌, subst, arith}
+use Rattle.std.proofs.Common.{◌≡◌, ◌-◌, length, vec_items, sym, ap, ◌∙◌, arith}
 use Rattle.index.specs.Slots.{mark_in}
 use Rattle.index.specs.Sound.{heads_of}
 use Rattle.index.proofs.Below.{end_none, end_found}

@@ -1,7 +1,6 @@
-use Rattle.std.proofs.Common.{◌≡◌, ℕ, suc, ◌+◌, ◌-◌, ◌/◌, ◌%◌, ◌^◌, ◌<◌, ◌≤◌, true, length, vec_items, vec_len, sym, refl, ap, ◌∙◌, subst, arith}
-use Rattle.index.specs.Nexts.{Scan, Ahead}
-use Rattle.index.specs.Nodes.{child_in, path_in, parent_in}
-use Rattle.index.specs.Slots.{marks, mark_in}
+use Rattle.std.proofs.Common.{◌≡◌, suc, ◌-◌, ◌<◌, length, vec_items, sym, refl, ◌∙◌, subst, arith}
+use Rattle.index.specs.Nexts.{Ahead}
+use Rattle.index.specs.Slots.{marks}
 use Rattle.index.specs.Sound.{heads_of}
 use Rattle.index.proofs.Below.{end_found, marks_at}
 use Rattle.index.proofs.Keys.{filed_has}
@@ -24,10 +23,10 @@ child-item-requires g c =
     let some : 0 < length (vec_items c.args.self.now.nodes) = omega arith in
     let e : c.loop-height.height ≡ suc (c.loop-height.height - 1) = omega arith in
     let a = subst (Ahead (vec_items c.args.self.now.nodes) (heads_of c.args.self.now) c.args.key c.loop-height.item) e c.loop-height.invariant in
-    let z = c.next-child-c.ensures in
-    let d = ahead_down c.requires some c.args.key c.loop-height.item (c.loop-height.height - 1) c.next-child-c.result a z.bound.1 z.passed z.found in
+    let z = c.next_child-c.ensures in
+    let d = ahead_down c.requires some c.args.key c.loop-height.item (c.loop-height.height - 1) c.next_child-c.result a z.bound.1 z.passed z.found in
     let n = ahead_node c.requires some c.args.key c.loop-height.item (c.loop-height.height - 1) a in
-    record { node-within = omega (arith, n.0); step-within = d.0 }
+    record { node_within = omega (arith, n.0); step_within = d.0 }
 
 pub loop-height-preserved : goal.loop-height-preserved
 loop-height-preserved g c =
@@ -35,12 +34,12 @@ loop-height-preserved g c =
     let some : 0 < length (vec_items c.args.self.now.nodes) = omega arith in
     let e : c.loop-height.height ≡ suc (c.loop-height.height - 1) = omega arith in
     let a = subst (Ahead (vec_items c.args.self.now.nodes) (heads_of c.args.self.now) c.args.key c.loop-height.item) e c.loop-height.invariant in
-    let z = c.next-child-c.ensures in
-    let d = ahead_down c.requires some c.args.key c.loop-height.item (c.loop-height.height - 1) c.next-child-c.result a z.bound.1 z.passed z.found in
+    let z = c.next_child-c.ensures in
+    let d = ahead_down c.requires some c.args.key c.loop-height.item (c.loop-height.height - 1) c.next_child-c.result a z.bound.1 z.passed z.found in
     subst (λ y. Ahead (vec_items c.args.self.now.nodes) (heads_of c.args.self.now) c.args.key y (c.loop-height.height - 1)) (sym c.child-item.ensures) d.1
 
-pub overflow-sub-slot : goal.overflow-sub-slot
-overflow-sub-slot g c =
+pub overflow_sub-slot : goal.overflow_sub-slot
+overflow_sub-slot g c =
     let v = c.args.self.now.nodes.ok.0 in
     let some : 0 < length (vec_items c.args.self.now.nodes) = omega arith in
     let r = first_end c.args.self.now c.args.key c.loop-height.item c.loop-height.height c.requires some c.loop-height.invariant c.loop-height-test.false in
@@ -51,18 +50,18 @@ mark-requires g c =
     let v = c.args.self.now.nodes.ok.0 in
     let some : 0 < length (vec_items c.args.self.now.nodes) = omega arith in
     let r = first_end c.args.self.now c.args.key c.loop-height.item c.loop-height.height c.requires some c.loop-height.invariant c.loop-height-test.false in
-    record { slot-within = omega (arith, r.1) }
+    record { slot_within = omega (arith, r.1) }
 
-pub overflow-sub-result : goal.overflow-sub-result
-overflow-sub-result g c =
+pub overflow_sub-result : goal.overflow_sub-result
+overflow_sub-result g c =
     let v = c.args.self.now.nodes.ok.0 in
     let some : 0 < length (vec_items c.args.self.now.nodes) = omega arith in
     let r = first_end c.args.self.now c.args.key c.loop-height.item c.loop-height.height c.requires some c.loop-height.invariant c.loop-height-test.false in
     let f = r.2 c.mark.result c.len-2.result (omega arith) c.mark.ensures in
     omega (arith, f.0)
 
-pub overflow-cast-result : goal.overflow-cast-result
-overflow-cast-result g c =
+pub overflow_cast-result : goal.overflow_cast-result
+overflow_cast-result g c =
     let v = c.args.self.now.nodes.ok.0 in
     let some : 0 < length (vec_items c.args.self.now.nodes) = omega arith in
     let r = first_end c.args.self.now c.args.key c.loop-height.item c.loop-height.height c.requires some c.loop-height.invariant c.loop-height-test.false in

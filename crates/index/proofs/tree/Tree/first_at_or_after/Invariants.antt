@@ -1,4 +1,4 @@
-use Rattle.std.proofs.Common.{◌≡◌, ℕ, ◌-◌, ◌<◌, ◌≤◌, vec_items}
+use Rattle.std.proofs.Common.{vec_items}
 use Rattle.index.specs.Nexts.{Ahead}
 use Rattle.index.specs.Sound.{heads_of}
 use Rattle.index.proofs.tree.Tree.first_at_or_after.Given as goal

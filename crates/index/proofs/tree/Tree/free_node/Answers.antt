@@ -1,4 +1,4 @@
-use Rattle.std.proofs.Common.{◌≡◌, ℕ, ◌+◌, ◌/◌, ◌%◌, ◌<◌, length, vec_items, vec_len, sym, refl, ap, ◌∙◌, subst, ⊎_elim, arith}
+use Rattle.std.proofs.Common.{◌≡◌, ◌+◌, ◌%◌, ◌<◌, length, vec_items, sym, refl, ap, ◌∙◌, subst, ⊎_elim}
 use lib.Bits.{bit_and}
 use Rattle.std.proofs.lemmas.Nat.{and_mask}
 use Rattle.std.proofs.lemmas.Bool.{cases_eq}
@@ -11,25 +11,25 @@ use Rattle.index.proofs.tree.Tree.free_node.Goals as goal
 pub returns : goal.returns
 returns g c =
     let ns = vec_items c.args.self.now.nodes in
-    let ns' = vec_items c.set-free.new.nodes in
+    let ns' = vec_items c.set_free.new.nodes in
     let hs = heads_of c.args.self.now in
     let x = c.args.node in
     let o : c.parent-up.result ≡ parent_in ns x = c.parent-up.ensures in
     let st : bit_and c.path.result 15 ≡ path_in ns x % 16 = and_mask c.path.result 4 ∙ ap (λ y. y % 16) c.path.ensures in
     let gap : child_in ns' c.parent-up.result (path_in ns x % 16) ≡ 0
-    = c.set-free.ensures.children c.parent-up.result (path_in ns x % 16) ∙ (ap (child_in (vec_items c.clear-child.new.nodes) c.parent-up.result) (sym st) ∙ c.clear-child.ensures.here) in
+    = c.set_free.ensures.children c.parent-up.result (path_in ns x % 16) ∙ (ap (child_in (vec_items c.clear_child.new.nodes) c.parent-up.result) (sym st) ∙ c.clear_child.ensures.here) in
     let g : NodeFreed ns ns' x c.args.self.now.unused = record {
-      len = c.set-free.ensures.len ∙ (c.clear-child.ensures.len ∙ c.set-path.ensures.len);
-      path_x = c.set-free.ensures.paths x ∙ (c.clear-child.ensures.paths x ∙ c.set-path.ensures.here);
-      path_o = λ j ne. c.set-free.ensures.paths j ∙ (c.clear-child.ensures.paths j ∙ c.set-path.ensures.rest j ne);
-      parents = λ j. c.set-free.ensures.parents j ∙ (c.clear-child.ensures.parents j
-          ∙ ⊎_elim (λ (q : j ≡ x). ap (parent_in (vec_items c.set-path.new.nodes)) q ∙ (c.set-path.ensures.parent-here ∙ (o ∙ ap (parent_in ns) (sym q))))
-          (λ (q : j ≡ x → ⊥). c.set-path.ensures.parent-rest j q) (cases_eq j x));
+      len = c.set_free.ensures.len ∙ (c.clear_child.ensures.len ∙ c.set_path.ensures.len);
+      path_x = c.set_free.ensures.paths x ∙ (c.clear_child.ensures.paths x ∙ c.set_path.ensures.here);
+      path_o = λ j ne. c.set_free.ensures.paths j ∙ (c.clear_child.ensures.paths j ∙ c.set_path.ensures.rest j ne);
+      parents = λ j. c.set_free.ensures.parents j ∙ (c.clear_child.ensures.parents j
+          ∙ ⊎_elim (λ (q : j ≡ x). ap (parent_in (vec_items c.set_path.new.nodes)) q ∙ (c.set_path.ensures.parent_here ∙ (o ∙ ap (parent_in ns) (sym q))))
+          (λ (q : j ≡ x → ⊥). c.set_path.ensures.parent_rest j q) (cases_eq j x));
       child_x = ap (λ y. child_in ns' y (path_in ns x % 16)) (sym o) ∙ gap;
-      child_o = λ j d ne. c.set-free.ensures.children j d ∙ (c.clear-child.ensures.rest j d (λ q. ne (q.0 ∙ o, q.1 ∙ st)) ∙ c.set-path.ensures.children j d);
-      free_x = c.set-free.ensures.here;
-      free_o = λ j ne. c.set-free.ensures.rest j ne ∙ (c.clear-child.ensures.frees j ∙ c.set-path.ensures.frees j);
-      masked = λ m. c.set-free.ensures.masked (c.clear-child.ensures.masked (c.set-path.ensures.masked m));
+      child_o = λ j d ne. c.set_free.ensures.children j d ∙ (c.clear_child.ensures.rest j d (λ q. ne (q.0 ∙ o, q.1 ∙ st)) ∙ c.set_path.ensures.children j d);
+      free_x = c.set_free.ensures.here;
+      free_o = λ j ne. c.set_free.ensures.rest j ne ∙ (c.clear_child.ensures.frees j ∙ c.set_path.ensures.frees j);
+      masked = λ m. c.set_free.ensures.masked (c.clear_child.ensures.masked (c.set_path.ensures.masked m));
     } in
     let r = node_freed hs g c.requires.sound c.requires.within c.requires.used c.requires.empty c.requires.left in
     record {

@@ -1,61 +1,61 @@
-use Rattle.std.proofs.Common.{◌≡◌, ℕ, ◌+◌, ◌/◌, ◌%◌, ◌^◌, ◌<◌, length, vec_items, vec_len, sym, refl, ap, ◌∙◌, subst, ⊎_elim, arith}
+use Rattle.std.proofs.Common.{◌≡◌, ◌+◌, ◌%◌, ◌^◌, vec_items, sym, refl, ap, ◌∙◌, subst, ⊎_elim, arith}
 use Rattle.std.proofs.lemmas.Bool.{cases_eq}
-use Rattle.index.specs.Nodes.{child_in, path_in, parent_in}
+use Rattle.index.specs.Nodes.{child_in, path_in}
 use Rattle.index.specs.Slots.{mark_in, slot_parent_in}
 use Rattle.index.specs.Sound.{SoundIn}
 use Rattle.index.specs.Sound.{heads_of}
-use Rattle.index.specs.Slots.{heads, records}
+use Rattle.index.specs.Slots.{heads}
 use Rattle.index.proofs.Freeing.{SlotFreed, slot_freed, at_parent, slot_left}
 use Rattle.index.proofs.tree.Tree.free_slot.Goals as goal
 
-pub slot-parent-up-requires : goal.slot-parent-up-requires
-slot-parent-up-requires g c =
+pub slot_parent-up-requires : goal.slot_parent-up-requires
+slot_parent-up-requires g c =
     let h = at_parent c.requires.sound c.requires.some c.args.slot c.args.key c.requires.holds in
-    record { slot-within = omega (arith, h.2) }
+    record { slot_within = omega (arith, h.2) }
 
-pub set-mark-requires : goal.set-mark-requires
-set-mark-requires g c =
+pub set_mark-requires : goal.set_mark-requires
+set_mark-requires g c =
     let h = at_parent c.requires.sound c.requires.some c.args.slot c.args.key c.requires.holds in
-    record { slot-within = omega (arith, h.2) }
+    record { slot_within = omega (arith, h.2) }
 
-pub clear-child-requires : goal.clear-child-requires
-clear-child-requires g c =
+pub clear_child-requires : goal.clear_child-requires
+clear_child-requires g c =
     let v = c.args.self.now.nodes.ok.0 in
     let h = at_parent c.requires.sound c.requires.some c.args.slot c.args.key c.requires.holds in
-    record { node-within = omega (arith, h.0); step-within = omega arith }
+    record { node_within = omega (arith, h.0); step_within = omega arith }
 
-pub set-free-slot-requires : goal.set-free-slot-requires
-set-free-slot-requires g c =
+pub set_free_slot-requires : goal.set_free_slot-requires
+set_free_slot-requires g c =
     let h = slot_left c.requires.sound c.requires.some c.args.slot c.args.key c.requires.holds in
-    record { at-within = omega (arith, c.set-mark.ensures.len) }
+    record { at_within = omega (arith, c.set_mark.ensures.len) }
 
 pub returns : goal.returns
 returns g c =
     let ns = vec_items c.args.self.now.nodes in
-    let ns' = vec_items c.clear-child.new.nodes in
+    let ns' = vec_items c.clear_child.new.nodes in
     let hs = heads_of c.args.self.now in
-    let hs' = heads (vec_items c.set-free-slot.new.slots) in
+    let hs' = heads (vec_items c.set_free_slot.new.slots) in
     let p = c.args.slot in
-    let o : c.slot-parent-up.result ≡ slot_parent_in hs p = c.slot-parent-up.ensures in
+    let o : c.slot_parent-up.result ≡ slot_parent_in hs p = c.slot_parent-up.ensures in
     let st : c.step.result ≡ (2 ^ 32 + c.args.key) % 16 = c.step.ensures in
     let mk : mark_in hs p % 16 ≡ (2 ^ 32 + c.args.key) % 16 = ap (λ y. y % 16) c.requires.holds in
-    let gap : child_in ns' c.slot-parent-up.result ((2 ^ 32 + c.args.key) % 16) ≡ 0 = ap (child_in ns' c.slot-parent-up.result) (sym st) ∙ c.clear-child.ensures.here in
+    let gap : child_in ns' c.slot_parent-up.result ((2 ^ 32 + c.args.key) % 16) ≡ 0 = ap (child_in ns' c.slot_parent-up.result) (sym st) ∙ c.clear_child.ensures.here in
     let g : SlotFreed ns ns' hs hs' p c.args.self.now.vacant = record {
-      masked = c.clear-child.ensures.masked;
-      len = c.clear-child.ensures.len;
-      paths = c.clear-child.ensures.paths;
-      parents = c.clear-child.ensures.parents;
-      frees = c.clear-child.ensures.frees;
-      child_x = ap (λ y. child_in ns' y (mark_in hs p % 16)) (sym o) ∙ (ap (child_in ns' c.slot-parent-up.result) mk ∙ gap);
-      child_o = λ j d ne. c.clear-child.ensures.rest j d (λ q. ne (q.0 ∙ o, q.1 ∙ (st ∙ sym mk)));
-      plen = c.set-free-slot.ensures.len ∙ c.set-mark.ensures.len;
-      mark_x = c.set-free-slot.ensures.marks p ∙ c.set-mark.ensures.mark-here;
-      mark_o = λ j ne. c.set-free-slot.ensures.marks j ∙ c.set-mark.ensures.mark-rest j ne;
-      slot_parents = λ j. c.set-free-slot.ensures.parents j
-          ∙ ⊎_elim (λ (q : j ≡ p). ap (slot_parent_in (heads (vec_items c.set-mark.new.slots))) q ∙ (c.set-mark.ensures.here ∙ (o ∙ ap (slot_parent_in hs) (sym q))))
-          (λ (q : j ≡ p → ⊥). c.set-mark.ensures.rest j q) (cases_eq j p);
-      slot_free_x = c.set-free-slot.ensures.here;
-      slot_free_o = λ j ne. c.set-free-slot.ensures.rest j ne ∙ c.set-mark.ensures.frees j;
+      masked = c.clear_child.ensures.masked;
+      len = c.clear_child.ensures.len;
+      paths = c.clear_child.ensures.paths;
+      parents = c.clear_child.ensures.parents;
+      frees = c.clear_child.ensures.frees;
+      child_x = ap (λ y. child_in ns' y (mark_in hs p % 16)) (sym o) ∙ (ap (child_in ns' c.slot_parent-up.result) mk ∙ gap);
+      child_o = λ j d ne. c.clear_child.ensures.rest j d (λ q. ne (q.0 ∙ o, q.1 ∙ (st ∙ sym mk)));
+      plen = c.set_free_slot.ensures.len ∙ c.set_mark.ensures.len;
+      mark_x = c.set_free_slot.ensures.marks p ∙ c.set_mark.ensures.mark_here;
+      mark_o = λ j ne. c.set_free_slot.ensures.marks j ∙ c.set_mark.ensures.mark_rest j ne;
+      slot_parents = λ j. c.set_free_slot.ensures.parents j
+          ∙ ⊎_elim (λ (q : j ≡ p). ap (slot_parent_in (heads (vec_items c.set_mark.new.slots))) q ∙ (c.set_mark.ensures.here ∙ (o ∙ ap (slot_parent_in hs) (sym q))))
+          (λ (q : j ≡ p → ⊥). c.set_mark.ensures.rest j q) (cases_eq j p);
+      slot_free_x = c.set_free_slot.ensures.here;
+      slot_free_o = λ j ne. c.set_free_slot.ensures.rest j ne ∙ c.set_mark.ensures.frees j;
     } in
     let h = at_parent c.requires.sound c.requires.some p c.args.key c.requires.holds in
     let r = slot_freed g c.args.key c.requires.sound c.requires.some c.requires.holds in
@@ -65,7 +65,7 @@ returns g c =
       path = ap (path_in ns') o ∙ (g.paths (slot_parent_in hs p) ∙ h.1);
       gap = gap;
       marks = r.1;
-      records = c.set-free-slot.ensures.values ∙ c.set-mark.ensures.values;
+      records = c.set_free_slot.ensures.values ∙ c.set_mark.ensures.values;
       len = g.len;
       unused = refl;
     }

@@ -1,4 +1,4 @@
-use Rattle.std.proofs.Common.{◌≡◌, ℕ, ◌+◌, ◌-◌, ◌<◌, min, List, length, vec_items, sym, refl, ap, ◌∙◌, subst, arith}
+use Rattle.std.proofs.Common.{◌≡◌, ℕ, ◌+◌, ◌-◌, ◌<◌, min, List, length, vec_items, sym, ◌∙◌, subst, arith}
 use Rattle.std.proofs.lemmas.List.{length-map}
 use Rattle.index.specs.declared.node.Node.{Node}
 use Rattle.index.specs.Nodes.{path_in, child_in, free_in, Masked}
@@ -12,22 +12,22 @@ abbrev Facts : List Node → ℕ → ℕ → Type 0
 Facts ns n f = (length ns ≡ n) × (f ≡ n - 1) × (0 < n → path_in ns 0 ≡ 1) × ((j : ℕ) → j < n → (j ≡ 0 → ⊥) → path_in ns j ≡ 0)
     × ((j c : ℕ) → j < n → c < 16 → child_in ns j c ≡ 0) × Masked ns × ((j : ℕ) → j < n → free_in ns j ≡ j + 1)
 
-pub clear-slots-requires : goal.clear-slots-requires
-clear-slots-requires g c =
+pub clear_slots-requires : goal.clear_slots-requires
+clear_slots-requires g c =
     let v = c.truncate-2.new.self.ok.0 in
     omega (arith, c.truncate-2.ensures.len, length-map (vec_items c.truncate-2.new.self) (λ s. s.head))
 
 pub returns : goal.returns
 returns g c =
     let n = c.len-n.result in
-    let i = c.clear-nodes.ensures in
-    let k = c.clear-slots.ensures in
-    let v = c.clear-nodes.new.nodes.ok.0 in
-    let e : length (vec_items c.clear-nodes.new.nodes) ≡ n = omega arith in
+    let i = c.clear_nodes.ensures in
+    let k = c.clear_slots.ensures in
+    let v = c.clear_nodes.new.nodes.ok.0 in
+    let e : length (vec_items c.clear_nodes.new.nodes) ≡ n = omega arith in
     let facts : Facts (vec_items c.if-n-gt0.ns) n c.if-n-gt0.unused =
     elim c.if-n-gt0.branch [
       | then-n-gt0 w ↦
-          let z = w.set-path.ensures in
+          let z = w.set_path.ensures in
           subst (λ y. Facts (vec_items y) n c.if-n-gt0.unused) (sym w.ns-is)
           (z.len ∙ e, w.unused-is, (λ _. z.here), (λ j l ne. z.rest j ne ∙ i.paths j (omega arith)), (λ j d l dl. z.children j d ∙ i.children j d (omega arith) dl), z.masked i.masked, (λ j l. z.frees j ∙ i.frees j (omega arith)))
       | else-n-gt0 w ↦
@@ -41,14 +41,14 @@ returns g c =
     let b = c.truncate.new.self.ok.0 in
     let p = c.args.slots.ok.0 in
     let q = c.truncate-2.new.self.ok.0 in
-    let r = c.clear-slots.new.slots.ok.0 in
+    let r = c.clear_slots.new.slots.ok.0 in
     let s1 = length-map (vec_items c.args.slots) (λ s. s.head) in
     let s2 = length-map (vec_items c.truncate-2.new.self) (λ s. s.head) in
-    let s3 = length-map (vec_items c.clear-slots.new.slots) (λ s. s.head) in
-    let size : length (heads (vec_items c.clear-slots.new.slots)) ≡ min (length (vec_items c.args.slots)) 2147483647 = omega (arith, k.len, c.truncate-2.ensures.len) in
+    let s3 = length-map (vec_items c.clear_slots.new.slots) (λ s. s.head) in
+    let size : length (heads (vec_items c.clear_slots.new.slots)) ≡ min (length (vec_items c.args.slots)) 2147483647 = omega (arith, k.len, c.truncate-2.ensures.len) in
     let nodes : n ≡ min (length (vec_items c.args.nodes)) 2147483647 = omega (arith, i.len, c.truncate.ensures.len) in
-    let vacant : c.len-vacant.result ≡ length (heads (vec_items c.clear-slots.new.slots)) = omega arith in
-    let w = fresh (record { nodes = c.if-n-gt0.ns; slots = c.clear-slots.new.slots; unused = c.if-n-gt0.unused; vacant = c.len-vacant.result })
+    let vacant : c.len-vacant.result ≡ length (heads (vec_items c.clear_slots.new.slots)) = omega arith in
+    let w = fresh (record { nodes = c.if-n-gt0.ns; slots = c.clear_slots.new.slots; unused = c.if-n-gt0.unused; vacant = c.len-vacant.result })
     (omega arith) (omega arith) vacant
     (λ l. facts.2 (omega arith)) (λ j l ne. facts.3 j (omega arith) ne) (λ j d l dl. facts.4 j d (omega arith) dl) facts.5 (λ j l. facts.6 j (omega arith))
     k.marks k.frees in

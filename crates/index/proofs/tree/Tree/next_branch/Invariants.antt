@@ -1,4 +1,4 @@
-use Rattle.std.proofs.Common.{◌≡◌, ℕ, ◌-◌, ◌<◌, ◌≤◌, vec_items}
+use Rattle.std.proofs.Common.{◌≡◌, ◌-◌, ◌<◌, vec_items}
 use Rattle.index.specs.Nexts.{Scan}
 use Rattle.index.specs.Nodes.{child_in}
 use Rattle.index.specs.Sound.{heads_of}

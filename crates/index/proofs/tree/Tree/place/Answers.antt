@@ -1,7 +1,7 @@
-use Rattle.std.proofs.Common.{◌≡◌, ℕ, zero, suc, ◌+◌, ◌-◌, ◌*◌, ◌%◌, ◌^◌, ◌<◌, ◌≤◌, length, set, vec_items, vec_len, sym, refl, ap, ◌∙◌, subst, arith, rules}
+use Rattle.std.proofs.Common.{◌≡◌, suc, ◌+◌, ◌-◌, ◌%◌, ◌^◌, ◌<◌, length, set, vec_items, sym, refl, ap, ◌∙◌, subst, arith}
 use Rattle.index.specs.Links.{up}
 use Rattle.index.specs.Slots.{marks, mark_in}
-use Rattle.index.specs.Nodes.{child_in, path_in}
+use Rattle.index.specs.Nodes.{child_in}
 use Rattle.index.specs.Sound.{heads_of}
 use Rattle.index.specs.Slots.{heads, records}
 use Rattle.index.proofs.Steps.{up_small, up_big}
@@ -37,11 +37,11 @@ returns-then-self-end g c =
       cases = (few_nodes c.args.self.now c.args.key c.descend-end.result.item c.descend-end.result.height c.requires c.descend-end.ensures (omega arith) (omega arith) c.if-self-eq0.false (omega arith), refl);
     }
 
-pub overflow-cast-path-above : goal.overflow-cast-path-above
-overflow-cast-path-above g c = omega (arith, up_small (c.loop-height.height - 1) (2 ^ 32 + c.args.key) (omega arith) (omega arith))
+pub overflow_cast-path_above : goal.overflow_cast-path_above
+overflow_cast-path_above g c = omega (arith, up_small (c.loop-height.height - 1) (2 ^ 32 + c.args.key) (omega arith) (omega arith))
 
-pub add-node-node-requires : goal.add-node-node-requires
-add-node-node-requires g c =
+pub add_node-node-requires : goal.add_node-node-requires
+add_node-node-requires g c =
     let t = 2 ^ 32 + c.args.key in
     let i = c.loop-height.invariant in
     let e : c.loop-height.height ≡ suc (c.loop-height.height - 1) = omega arith in
@@ -53,12 +53,12 @@ add-node-node-requires g c =
       left = omega arith;
       within = i.3;
       small = (omega arith, omega arith);
-      parent = omega (arith, i.4, c.path-above.ensures);
-      gap = ap (λ x. child_in (vec_items c.loop-height.self.nodes) c.loop-height.node (x % 16)) c.path-above.ensures ∙ i.5 (c.loop-height.height - 1) e;
+      parent = omega (arith, i.4, c.path_above.ensures);
+      gap = ap (λ x. child_in (vec_items c.loop-height.self.nodes) c.loop-height.node (x % 16)) c.path_above.ensures ∙ i.5 (c.loop-height.height - 1) e;
     }
 
-pub take-slot-requires : goal.take-slot-requires
-take-slot-requires g c =
+pub take_slot-requires : goal.take_slot-requires
+take_slot-requires g c =
     let i = c.loop-height.invariant in
     let e : c.loop-height.height ≡ 1 = omega arith in
     record {
@@ -72,11 +72,11 @@ take-slot-requires g c =
 pub returns : goal.returns
 returns g c =
     let i = c.loop-height.invariant in
-    let z = c.take-slot.ensures in
+    let z = c.take_slot.ensures in
     let r = placed_new c.args.self.now c.args.key c.descend-end.result.item c.descend-end.result.height c.requires c.descend-end.ensures (omega arith) (omega arith)
-    c.take-slot.new.self c.take-slot.result (omega arith) c.if-self-eq0.false (omega arith)
-    (subst (λ x. c.take-slot.result < length (heads (vec_items x))) i.6 z.within)
-    (ap (λ x. mark_in (heads (vec_items x)) c.take-slot.result) (sym i.6) ∙ z.was)
-    (z.marks ∙ ap (λ x. set (marks (heads (vec_items x))) c.take-slot.result (2 ^ 32 + c.args.key)) i.6)
+    c.take_slot.new.self c.take_slot.result (omega arith) c.if-self-eq0.false (omega arith)
+    (subst (λ x. c.take_slot.result < length (heads (vec_items x))) i.6 z.within)
+    (ap (λ x. mark_in (heads (vec_items x)) c.take_slot.result) (sym i.6) ∙ z.was)
+    (z.marks ∙ ap (λ x. set (marks (heads (vec_items x))) c.take_slot.result (2 ^ 32 + c.args.key)) i.6)
     (z.records ∙ ap (λ x. records (vec_items x)) i.6) (z.len ∙ i.7) (omega arith) z.sound in
-    record { whole = r.0; sizes = (r.1.nodes_are, slots_len (heads_of c.args.self.now) (heads_of c.take-slot.new.self) c.take-slot.result (2 ^ 32 + c.args.key) r.1.marks_are); cases = r.1 }
+    record { whole = r.0; sizes = (r.1.nodes_are, slots_len (heads_of c.args.self.now) (heads_of c.take_slot.new.self) c.take_slot.result (2 ^ 32 + c.args.key) r.1.marks_are); cases = r.1 }

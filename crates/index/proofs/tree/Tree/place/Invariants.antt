@@ -1,4 +1,4 @@
-use Rattle.std.proofs.Common.{◌≡◌, ℕ, suc, ◌+◌, ◌-◌, ◌%◌, ◌^◌, ◌<◌, ◌≤◌, length, vec_items}
+use Rattle.std.proofs.Common.{◌≡◌, ℕ, suc, ◌+◌, ◌%◌, ◌^◌, ◌<◌, ◌≤◌, length, vec_items}
 use Rattle.index.specs.Links.{up}
 use Rattle.index.specs.Nodes.{path_in, child_in}
 use Rattle.index.specs.Sound.{Sound}

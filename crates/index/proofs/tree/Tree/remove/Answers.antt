@@ -1,6 +1,6 @@
-use Rattle.std.proofs.Common.{◌≡◌, ℕ, suc, ◌+◌, ◌-◌, ◌/◌, ◌%◌, ◌^◌, ◌<◌, ◌≤◌, ◌⊎◌, length, set, vec_items, vec_len, sym, refl, ap, ◌∙◌, subst, inl, inr, arith}
+use Rattle.std.proofs.Common.{◌≡◌, suc, ◌+◌, ◌-◌, ◌/◌, ◌%◌, ◌^◌, length, vec_items, sym, refl, ap, ◌∙◌, inl, inr, arith}
 use Rattle.index.specs.Links.{up}
-use Rattle.index.specs.Nodes.{child_in, path_in}
+use Rattle.index.specs.Nodes.{child_in}
 use Rattle.index.specs.Slots.{marks, mark_in}
 use Rattle.index.specs.Sound.{heads_of}
 use Rattle.index.specs.Slots.{heads, records}
@@ -13,8 +13,8 @@ use Rattle.index.proofs.tree.Tree.remove.Goals as goal
 pub returns-then-end-gt0 : goal.returns-then-end-gt0
 returns-then-end-gt0 g c = record { whole = c.requires; sizes = (refl, refl); cases = (end_none c.requires.sound c.descend-end.ensures c.if-end-gt0.true, refl) }
 
-pub free-slot-node-requires : goal.free-slot-node-requires
-free-slot-node-requires g c =
+pub free_slot-node-requires : goal.free_slot-node-requires
+free_slot-node-requires g c =
     let v = c.args.self.now.nodes.ok.0 in
     let f = end_found c.requires.sound c.descend-end.ensures (omega arith) in
     let e : length (vec_items c.args.self.now.nodes) ≡ c.len.result = omega arith in
@@ -24,8 +24,8 @@ free-slot-node-requires g c =
       holds = ap (λ x. mark_in (heads_of c.args.self.now) (c.descend-end.result.item - x)) (sym e) ∙ f.3;
     }
 
-pub free-node-node-requires : goal.free-node-node-requires
-free-node-node-requires g c =
+pub free_node-node-requires : goal.free_node-node-requires
+free_node-node-requires g c =
     let v = c.args.self.now.nodes.ok.0 in
     let f = end_found c.requires.sound c.descend-end.ensures (omega arith) in
     let e : length (vec_items c.args.self.now.nodes) ≡ c.len.result = omega arith in
@@ -33,20 +33,20 @@ free-node-node-requires g c =
     = ap (λ x. mark_in (heads_of c.args.self.now) (c.descend-end.result.item - x)) (sym e) ∙ f.3 in
     let room = unused_room c.args.self.now c.args.key (c.descend-end.result.item - c.len.result) c.requires (omega arith) f.0 held in
     let i = c.loop-height.invariant in
-    let z = c.free-slot-node.ensures in
+    let z = c.free_slot-node.ensures in
     let big = up_big c.loop-height.height (2 ^ 32 + c.args.key) c.loop-height-test.true (omega arith) (omega arith) in
     record {
       sound = i.0;
       within = i.3;
       used = omega (arith, i.4);
-      empty = c.if-is-empty.ensures;
+      empty = c.if-is_empty.ensures;
       left = omega (arith, i.7, i.8, z.len, z.unused);
     }
 
 pub loop-height-preserved : goal.loop-height-preserved
 loop-height-preserved g c =
     let i = c.loop-height.invariant in
-    let z = c.free-node-node.ensures in
+    let z = c.free_node-node.ensures in
     let t = 2 ^ 32 + c.args.key in
     let h : suc c.loop-height.height ≡ c.loop-height.height + 1 = omega arith in (
       z.sound,
@@ -55,24 +55,24 @@ loop-height-preserved g c =
       z.within,
       z.path ∙ (ap (λ x. x / 16) i.4 ∙ ap (λ x. up x t) h),
       (λ g e. let q : g ≡ c.loop-height.height = omega arith in
-          ap (λ x. child_in (vec_items c.free-node-node.new.self.nodes) c.free-node-node.result (x % 16)) (ap (λ x. up x t) q ∙ sym i.4) ∙ z.gap),
+          ap (λ x. child_in (vec_items c.free_node-node.new.self.nodes) c.free_node-node.result (x % 16)) (ap (λ x. up x t) q ∙ sym i.4) ∙ z.gap),
       z.slots ∙ i.6,
       z.len ∙ i.7,
       omega (arith, i.8, z.unused),
     )
 
-pub returns-else-is-empty : goal.returns-else-is-empty
-returns-else-is-empty g c =
+pub returns-else-is_empty : goal.returns-else-is_empty
+returns-else-is_empty g c =
     let v = c.args.self.now.nodes.ok.0 in
     let f = end_found c.requires.sound c.descend-end.ensures (omega arith) in
     let e : length (vec_items c.args.self.now.nodes) ≡ c.len.result = omega arith in
     let held : mark_in (heads_of c.args.self.now) (c.descend-end.result.item - c.len.result) ≡ 2 ^ 32 + c.args.key
     = ap (λ x. mark_in (heads_of c.args.self.now) (c.descend-end.result.item - x)) (sym e) ∙ f.3 in
     let i = c.loop-height.invariant in
-    let z = c.free-slot-node.ensures in
+    let z = c.free_slot-node.ensures in
     let r = removed c.args.self.now c.args.key (c.descend-end.result.item - c.len.result) c.requires (omega arith) f.0 held
     c.loop-height.self c.loop-height.node c.loop-height.height i.0 i.1 i.2 i.3 i.4 i.5
-    (ap (λ x. marks (heads (vec_items x))) i.6 ∙ z.marks) (ap (λ x. records (vec_items x)) i.6 ∙ z.records) (i.7 ∙ z.len) (omega (arith, i.8, z.unused)) (inr c.if-is-empty.ensures) in
+    (ap (λ x. marks (heads (vec_items x))) i.6 ∙ z.marks) (ap (λ x. records (vec_items x)) i.6 ∙ z.records) (i.7 ∙ z.len) (omega (arith, i.8, z.unused)) (inr c.if-is_empty.ensures) in
     record { whole = r.0; sizes = (r.1.nodes_are, slots_len (heads_of c.args.self.now) (heads_of c.loop-height.self) (c.descend-end.result.item - c.len.result) 0 r.1.marks_are); cases = r.1 }
 
 pub returns-after-loop-height : goal.returns-after-loop-height
@@ -83,7 +83,7 @@ returns-after-loop-height g c =
     let held : mark_in (heads_of c.args.self.now) (c.descend-end.result.item - c.len.result) ≡ 2 ^ 32 + c.args.key
     = ap (λ x. mark_in (heads_of c.args.self.now) (c.descend-end.result.item - x)) (sym e) ∙ f.3 in
     let i = c.loop-height.invariant in
-    let z = c.free-slot-node.ensures in
+    let z = c.free_slot-node.ensures in
     let r = removed c.args.self.now c.args.key (c.descend-end.result.item - c.len.result) c.requires (omega arith) f.0 held
     c.loop-height.self c.loop-height.node c.loop-height.height i.0 i.1 i.2 i.3 i.4 i.5
     (ap (λ x. marks (heads (vec_items x))) i.6 ∙ z.marks) (ap (λ x. records (vec_items x)) i.6 ∙ z.records) (i.7 ∙ z.len) (omega (arith, i.8, z.unused)) (inl (omega arith)) in

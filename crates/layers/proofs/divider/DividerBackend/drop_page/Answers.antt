@@ -3,8 +3,8 @@ use Rattle.backend.specs.States.{View, encode}
 use Rattle.layers.specs.Sides.{moved_even, moved_odd}
 use Rattle.layers.proofs.divider.DividerBackend.drop_page.Goals as goal
 
-pub returns-then-is-ephemeral : goal.returns-then-is-ephemeral
-returns-then-is-ephemeral g c =
+pub returns-then-is_ephemeral : goal.returns-then-is_ephemeral
+returns-then-is_ephemeral g c =
     let d = c.args.self.now in
     let k = c.args.key.number in
     let v : View = record { label = d.label; offers = d.offers; first = g.A.Backend.state d.first; second = g.B.Backend.state d.second } in
@@ -12,15 +12,15 @@ returns-then-is-ephemeral g c =
     c.drop_page.ensures
     ∙ sym
     (moved_even v k (λ o. o) (λ t. g.A.Backend.rules.drop_page_next t k) (λ t. g.B.Backend.rules.drop_page_next t k)
-    (sym c.if-is-ephemeral.ensures))
+    (sym c.if-is_ephemeral.ensures))
 
-pub returns-else-is-ephemeral : goal.returns-else-is-ephemeral
-returns-else-is-ephemeral g c =
+pub returns-else-is_ephemeral : goal.returns-else-is_ephemeral
+returns-else-is_ephemeral g c =
     let d = c.args.self.now in
     let k = c.args.key.number in
     let v : View = record { label = d.label; offers = d.offers; first = g.A.Backend.state d.first; second = g.B.Backend.state d.second } in
     ap (λ (t : List ℕ). encode (record { label = d.label; offers = d.offers; first = g.A.Backend.state d.first; second = t }))
-    c.drop-page-else-is-ephemeral.ensures
+    c.drop_page-else-is_ephemeral.ensures
     ∙ sym
     (moved_odd v k (λ o. o) (λ t. g.A.Backend.rules.drop_page_next t k) (λ t. g.B.Backend.rules.drop_page_next t k)
-    (sym c.if-is-ephemeral.ensures))
+    (sym c.if-is_ephemeral.ensures))

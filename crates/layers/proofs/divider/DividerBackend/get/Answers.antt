@@ -11,19 +11,19 @@ use Rattle.layers.proofs.divider.DividerBackend.get.Goals as goal
 abbrev found : Option (List ℕ) → Result Bool Refusal
 found o = Ok (is_some o)
 
-pub returns-then-out-ne-PAGE-BYTES : goal.returns-then-out-ne-PAGE-BYTES
-returns-then-out-ne-PAGE-BYTES g c = search (rules, decode_encode)
+pub returns-then-out-ne-PAGE_BYTES : goal.returns-then-out-ne-PAGE_BYTES
+returns-then-out-ne-PAGE_BYTES g c = search (rules, decode_encode)
 
-pub returns-then-is-ephemeral : goal.returns-then-is-ephemeral
-returns-then-is-ephemeral g c =
+pub returns-then-is_ephemeral : goal.returns-then-is_ephemeral
+returns-then-is_ephemeral g c =
     let R = g.A.Backend.rules in
     let S = g.B.Backend.rules in
     let d = c.args.self.now in
     let k = c.args.key.number in
     let out = c.args.out.now in
     let v : View = record { label = d.label; offers = d.offers; first = g.A.Backend.state d.first; second = g.B.Backend.state d.second } in
-    let page = eq-eqb _ _ c.if-out-ne-PAGE-BYTES.false in
-    let side = sym c.if-is-ephemeral.ensures in
+    let page = eq-eqb _ _ c.if-out-ne-PAGE_BYTES.false in
+    let side = sym c.if-is_ephemeral.ensures in
     let there = view_held R S v k ∙ cond-true (ephemeral k) _ _ side in
     let next = moved_even v k (λ o. o) (λ t. R.get_next t k) (λ t. S.get_next t k) side in
     let under = c.get.ensures.after ∙ cond-true (is_page out) _ _ page in
@@ -37,25 +37,25 @@ returns-then-is-ephemeral g c =
           ∙ sym (cond-true (is_page out) _ _ page ∙ ap (λ (o : Option (List ℕ)). copied o out) there);
     }
 
-pub returns-else-is-ephemeral : goal.returns-else-is-ephemeral
-returns-else-is-ephemeral g c =
+pub returns-else-is_ephemeral : goal.returns-else-is_ephemeral
+returns-else-is_ephemeral g c =
     let R = g.A.Backend.rules in
     let S = g.B.Backend.rules in
     let d = c.args.self.now in
     let k = c.args.key.number in
     let out = c.args.out.now in
     let v : View = record { label = d.label; offers = d.offers; first = g.A.Backend.state d.first; second = g.B.Backend.state d.second } in
-    let page = eq-eqb _ _ c.if-out-ne-PAGE-BYTES.false in
-    let side = sym c.if-is-ephemeral.ensures in
+    let page = eq-eqb _ _ c.if-out-ne-PAGE_BYTES.false in
+    let side = sym c.if-is_ephemeral.ensures in
     let there = view_held R S v k ∙ cond-false (ephemeral k) _ _ side in
     let next = moved_odd v k (λ o. o) (λ t. R.get_next t k) (λ t. S.get_next t k) side in
-    let under = c.get-else-is-ephemeral.ensures.after ∙ cond-true (is_page out) _ _ page in
+    let under = c.get-else-is_ephemeral.ensures.after ∙ cond-true (is_page out) _ _ page in
     record {
       answer =
-          c.get-else-is-ephemeral.ensures.answer ∙ cond-true (is_page out) _ _ page
+          c.get-else-is_ephemeral.ensures.answer ∙ cond-true (is_page out) _ _ page
           ∙ sym (cond-true (is_page out) _ _ page ∙ ap found there);
       after = ap (λ (t : List ℕ). encode (record { label = d.label; offers = d.offers; first = g.A.Backend.state d.first; second = t })) under ∙ sym (cond-true (is_page out) _ _ page ∙ next);
       buffer =
-          c.get-else-is-ephemeral.ensures.buffer ∙ cond-true (is_page out) _ _ page
+          c.get-else-is_ephemeral.ensures.buffer ∙ cond-true (is_page out) _ _ page
           ∙ sym (cond-true (is_page out) _ _ page ∙ ap (λ (o : Option (List ℕ)). copied o out) there);
     }

@@ -22,6 +22,6 @@ returns-else-pool-eq0 g c =
     let v : View = record { label = d.label; offers = d.offers; first = g.A.Backend.state d.first; second = g.B.Backend.state d.second } in
     let there = view_pool_pages g.A.Backend.rules g.B.Backend.rules v pool ∙ cond-false (eqb (pool % 2) 0) _ _ (ne_eqb _ _ c.if-pool-eq0.false) in
     record {
-      answer = c.pool-pages-else-pool-eq0.ensures.answer ∙ sym there;
-      same = ap (λ (t : List ℕ). encode (record { label = d.label; offers = d.offers; first = g.A.Backend.state d.first; second = t })) c.pool-pages-else-pool-eq0.ensures.same;
+      answer = c.pool_pages-else-pool-eq0.ensures.answer ∙ sym there;
+      same = ap (λ (t : List ℕ). encode (record { label = d.label; offers = d.offers; first = g.A.Backend.state d.first; second = t })) c.pool_pages-else-pool-eq0.ensures.same;
     }

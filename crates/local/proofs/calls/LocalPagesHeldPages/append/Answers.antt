@@ -13,7 +13,7 @@ returns-in-Some c =
     let size = size_of b.held in
     let k = c.args.key.number in
     let page = c.args.page.now in
-    let whole = eq-eqb _ _ c.if-page-ne-PAGE-BYTES.false in
+    let whole = eq-eqb _ _ c.if-page-ne-PAGE_BYTES.false in
     let w = c.write.ensures in
     let r = c.write.result in
     let p = c.in-Some.place in
@@ -21,11 +21,11 @@ returns-in-Some c =
     let new = holdings c.push.new.self in
     let cases = c.in-Some.ensures.cases in
     record {
-      answer = c.is-ok.ensures.value ∙ joined area H size k page whole b.fits p r after w.answer w.area w.same-place w.other_places new cases;
-      entries = joined_entries area H size k page whole b.fits p r after w.answer w.area w.same-place w.other_places new cases ∙ ap (λ (t : Bool). cond t (entries_by (page_at area) H ++ record { key = k; page = page } ∷ []) (entries_by (page_at area) H)) (sym c.is-ok.ensures.value);
+      answer = c.is_ok.ensures.value ∙ joined area H size k page whole b.fits p r after w.answer w.area w.same_place w.other_places new cases;
+      entries = joined_entries area H size k page whole b.fits p r after w.answer w.area w.same_place w.other_places new cases ∙ ap (λ (t : Bool). cond t (entries_by (page_at area) H ++ record { key = k; page = page } ∷ []) (entries_by (page_at area) H)) (sym c.is_ok.ensures.value);
       fixed =
           ap (λ (n : ℕ). n ∷ drop (start_of n) after) c.in-Some.ensures.size
-          ∙ ap (λ (bytes : List ℕ). size ∷ bytes) (joined_behind area H size k page whole b.fits p r after w.answer w.area w.same-place w.other_places new cases);
+          ∙ ap (λ (bytes : List ℕ). size ∷ bytes) (joined_behind area H size k page whole b.fits p r after w.answer w.area w.same_place w.other_places new cases);
     }
 
 pub returns-in-None : goal.returns-in-None
@@ -36,7 +36,7 @@ returns-in-None c =
     let size = size_of b.held in
     let e = c.in-None.ensures in
     record {
-      answer = full area H size c.args.key.number c.args.page.now (eq-eqb _ _ c.if-page-ne-PAGE-BYTES.false) e.cases.0;
+      answer = full area H size c.args.key.number c.args.page.now (eq-eqb _ _ c.if-page-ne-PAGE_BYTES.false) e.cases.0;
       entries = ap (entries_by (page_at area)) e.cases.1;
       fixed = ap (λ (n : ℕ). n ∷ drop (start_of n) area) e.size;
     }

@@ -7,4 +7,4 @@ use Rattle.local.proofs.calls.LocalPagesHeldPages.holds.Goals as goal
 pub returns : goal.returns
 returns c =
     let b = c.args.self.now in
-    c.is-some.ensures ∙ (ap is_some c.find.ensures ∙ sym (holds_entries (page_at (area_of b.memory)) c.args.key.number (holdings b.held)))
+    c.is_some.ensures ∙ (ap is_some c.find.ensures ∙ sym (holds_entries (page_at (area_of b.memory)) c.args.key.number (holdings b.held)))

@@ -8,4 +8,4 @@ use Rattle.local.proofs.calls.LocalPagesHeldPages.pool_pages.Goals as goal
 pub returns : goal.returns
 returns c =
     let b = c.args.self.now in
-    c.pool-count.ensures ∙ ap (λ (ks : List ℕ). pool_size ks c.args.pool) (sym (keys_entries (page_at (area_of b.memory)) (holdings b.held)))
+    c.pool_count.ensures ∙ ap (λ (ks : List ℕ). pool_size ks c.args.pool) (sym (keys_entries (page_at (area_of b.memory)) (holdings b.held)))

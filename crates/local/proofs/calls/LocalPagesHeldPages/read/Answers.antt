@@ -14,7 +14,7 @@ returns-in-Some c =
     let at = sym c.in-Some.ensures in
     let below = place_taken (λ q. q < size_of b.held) k p (holdings b.held) (places_below b.held) at in
     let found = read_found (area_of b.memory) (holdings b.held) k c.args.out.now p c.read.result at (omega (arith, below, b.fits)) c.read.ensures.answer in
-    record { answer = c.is-ok.ensures.value ∙ found.0; buffer = c.read.ensures.out ∙ found.1 }
+    record { answer = c.is_ok.ensures.value ∙ found.0; buffer = c.read.ensures.out ∙ found.1 }
 
 pub returns-in-None : goal.returns-in-None
 returns-in-None c =

@@ -17,13 +17,13 @@ returns-in-Some c =
     let k = c.args.key.number in
     let p = c.in-Some.place in
     let out = c.args.out.now in
-    let page = eq-eqb _ _ c.if-out-ne-PAGE-BYTES.false in
+    let page = eq-eqb _ _ c.if-out-ne-PAGE_BYTES.false in
     let m = c.remove.ensures in
     let at = sym c.in-Some.ensures.value in
     let below = place_taken (λ q. q < size_of b.held) k p H (places_below b.held) at in
     let found = read_found area H k out p c.read.result at (omega (arith, below, b.fits)) c.read.ensures.answer in
     record {
-      answer = c.is-ok.ensures.value ∙ found.0;
+      answer = c.is_ok.ensures.value ∙ found.0;
       buffer = c.read.ensures.out ∙ found.1;
       entries = ap (entries_by (page_at area)) m.after ∙ (without_entries (page_at area) k H ∙ sym (cond-true (is_page out) _ _ page));
       fixed = ap (λ (n : ℕ). n ∷ drop (start_of n) area) m.size;
@@ -36,7 +36,7 @@ returns-in-None c =
     let H = holdings b.held in
     let k = c.args.key.number in
     let out = c.args.out.now in
-    let page = eq-eqb _ _ c.if-out-ne-PAGE-BYTES.false in
+    let page = eq-eqb _ _ c.if-out-ne-PAGE_BYTES.false in
     let m = c.remove.ensures in
     let none = missed (page_at area) k H out (sym c.in-None.ensures.value) in
     record {

@@ -10,7 +10,7 @@ returns c =
     let at = c.args.at in
     let bytes = c.args.bytes.now in
     let laid =
-    overlaid_by c.as-mut-slice-area.result.now at bytes _ c.copy-from-slice.ensures.after
-    ∙ ap (λ (area : List ℕ). overlaid area at bytes) c.as-mut-slice-area.ensures.value in
+    overlaid_by c.as_mut_slice-area.result.now at bytes _ c.copy_from_slice.ensures.after
+    ∙ ap (λ (area : List ℕ). overlaid area at bytes) c.as_mut_slice-area.ensures.value in
     let long = ap length laid ∙ length_overlaid (area_of memory) at bytes c.requires ∙ sym memory.bytes.ok.0 in
     with_items_is memory.bytes _ long ∙ laid

@@ -3,4 +3,4 @@ use Rattle.store.specs.StatesLemmas.{dropped_is}
 use Rattle.store.proofs.calls.StoreBackend.drop_object.Goals as goal
 
 pub returns : goal.returns
-returns g c = cc (c.drop-block.ensures.entries, c.drop-block.ensures.fixed) ∙ sym (dropped_is _ _)
+returns g c = cc (c.drop_block.ensures.entries, c.drop_block.ensures.fixed) ∙ sym (dropped_is _ _)

@@ -4,33 +4,33 @@ use Rattle.store.proofs.Gets.{got_answer, got_buffer, taken_after, read_after}
 use Rattle.store.specs.StatesLemmas.{label_is}
 use Rattle.store.proofs.calls.StoreBackend.get.Goals as goal
 
-pub returns-then-out-ne-PAGE-BYTES : goal.returns-then-out-ne-PAGE-BYTES
-returns-then-out-ne-PAGE-BYTES g c = search (rules, label_is)
+pub returns-then-out-ne-PAGE_BYTES : goal.returns-then-out-ne-PAGE_BYTES
+returns-then-out-ne-PAGE_BYTES g c = search (rules, label_is)
 
-pub returns-then-is-ephemeral : goal.returns-then-is-ephemeral
-returns-then-is-ephemeral g c =
+pub returns-then-is_ephemeral : goal.returns-then-is_ephemeral
+returns-then-is_ephemeral g c =
     let b = c.args.self.now in
     let v : ListState = record { label = b.label; offers = b.offers; fixed = g.H.HeldPages.fixed b.pages; entries = g.H.HeldPages.entries b.pages } in
     let k = c.args.key.number in
     let out = c.args.out.now in
-    let page = eq-eqb _ _ c.if-out-ne-PAGE-BYTES.false in
+    let page = eq-eqb _ _ c.if-out-ne-PAGE_BYTES.false in
     let lack = g.H.HeldPages.lack in
     record {
       answer = got_answer lack v k out page _ _ c.take.ensures.answer;
-      after = taken_after lack v k out page _ _ (sym c.is-ephemeral.ensures ∙ c.if-is-ephemeral.true) c.take.ensures.fixed c.take.ensures.entries;
+      after = taken_after lack v k out page _ _ (sym c.is_ephemeral.ensures ∙ c.if-is_ephemeral.true) c.take.ensures.fixed c.take.ensures.entries;
       buffer = got_buffer lack v k out page _ c.take.ensures.buffer;
     }
 
-pub returns-else-is-ephemeral : goal.returns-else-is-ephemeral
-returns-else-is-ephemeral g c =
+pub returns-else-is_ephemeral : goal.returns-else-is_ephemeral
+returns-else-is_ephemeral g c =
     let b = c.args.self.now in
     let v : ListState = record { label = b.label; offers = b.offers; fixed = g.H.HeldPages.fixed b.pages; entries = g.H.HeldPages.entries b.pages } in
     let k = c.args.key.number in
     let out = c.args.out.now in
-    let page = eq-eqb _ _ c.if-out-ne-PAGE-BYTES.false in
+    let page = eq-eqb _ _ c.if-out-ne-PAGE_BYTES.false in
     let lack = g.H.HeldPages.lack in
     record {
       answer = got_answer lack v k out page _ _ c.read.ensures.answer;
-      after = read_after lack v k out page (sym c.is-ephemeral.ensures ∙ c.if-is-ephemeral.false);
+      after = read_after lack v k out page (sym c.is_ephemeral.ensures ∙ c.if-is_ephemeral.false);
       buffer = got_buffer lack v k out page _ c.read.ensures.buffer;
     }

@@ -6,8 +6,8 @@ use Rattle.store.proofs.Puts.{rest_is, put_answer, put_after, counted}
 use Rattle.store.specs.StatesLemmas.{label_is}
 use Rattle.store.proofs.calls.StoreBackend.put.Goals as goal
 
-pub returns-then-page-ne-PAGE-BYTES : goal.returns-then-page-ne-PAGE-BYTES
-returns-then-page-ne-PAGE-BYTES g c = search (rules, label_is)
+pub returns-then-page-ne-PAGE_BYTES : goal.returns-then-page-ne-PAGE_BYTES
+returns-then-page-ne-PAGE_BYTES g c = search (rules, label_is)
 
 pub returns-then-append : goal.returns-then-append
 returns-then-append g c =
@@ -15,17 +15,17 @@ returns-then-append g c =
     let v : ListState = record { label = b.label; offers = b.offers; fixed = g.H.HeldPages.fixed b.pages; entries = g.H.HeldPages.entries b.pages } in
     let k = c.args.key.number in
     let p = c.args.page.now in
-    let page = eq-eqb _ _ c.if-page-ne-PAGE-BYTES.false in
+    let page = eq-eqb _ _ c.if-page-ne-PAGE_BYTES.false in
     let lack = g.H.HeldPages.lack in
     let r = c.remove.ensures in
-    let m = c.make-room.ensures in
+    let m = c.make_room.ensures in
     let a = c.append.ensures in
     let found = rest_is lack v k p _ _ _ r.fixed r.entries m.entries in
     let fixed = m.fixed ∙ r.fixed in
     record {
       answer = sym (cond-true (is_page p) _ _ page ∙ (put_answer lack v k p page _ _ _ fixed found a.answer ∙ cond-true c.append.result _ _ c.if-append.true));
       after =
-          counted lack v k p page _ _ _ _ _ _ c.one-more-self.ensures.value (put_after lack v k p page _ _ _ fixed found a.answer _ _ a.fixed a.entries);
+          counted lack v k p page _ _ _ _ _ _ c.one_more-self.ensures.value (put_after lack v k p page _ _ _ fixed found a.answer _ _ a.fixed a.entries);
     }
 
 pub returns-else-append : goal.returns-else-append
@@ -34,15 +34,15 @@ returns-else-append g c =
     let v : ListState = record { label = b.label; offers = b.offers; fixed = g.H.HeldPages.fixed b.pages; entries = g.H.HeldPages.entries b.pages } in
     let k = c.args.key.number in
     let p = c.args.page.now in
-    let page = eq-eqb _ _ c.if-page-ne-PAGE-BYTES.false in
+    let page = eq-eqb _ _ c.if-page-ne-PAGE_BYTES.false in
     let lack = g.H.HeldPages.lack in
     let r = c.remove.ensures in
-    let m = c.make-room.ensures in
+    let m = c.make_room.ensures in
     let a = c.append.ensures in
     let found = rest_is lack v k p _ _ _ r.fixed r.entries m.entries in
     let fixed = m.fixed ∙ r.fixed in
     record {
       answer = sym (cond-true (is_page p) _ _ page ∙ (put_answer lack v k p page _ _ _ fixed found a.answer ∙ cond-false c.append.result _ _ c.if-append.false));
       after =
-          counted lack v k p page _ _ _ _ _ _ c.one-more-self.ensures.value (put_after lack v k p page _ _ _ fixed found a.answer _ _ a.fixed a.entries);
+          counted lack v k p page _ _ _ _ _ _ c.one_more-self.ensures.value (put_after lack v k p page _ _ _ fixed found a.answer _ _ a.fixed a.entries);
     }

@@ -1,4 +1,4 @@
-use Rattle.std.proofs.Common.{◌≡◌, true, List, sym, refl, ap, ◌∙◌, subst}
+use Rattle.std.proofs.Common.{◌≡◌, true, List, sym, refl, ◌∙◌, subst}
 use Rattle.backend.specs.Listing.{tidy}
 use Rattle.backend.specs.Rules.{Entry}
 use Rattle.store.specs.StatesLemmas.{listed_is, offers_are}
