@@ -1,7 +1,7 @@
 -- Reading a line undoes writing a command, and only a command's text reads as that command.
 use Rattle.std.proofs.Common.{◌≡◌, ℕ, ◌+◌, ◌^◌, ◌<◌, Bool, true, false, cond, eqb, ltb, List, [], ◌∷◌, ◌++◌, map, Some, None, Ok, Err, decimal, Option, Result, sym, refl, ap, ◌∙◌, subst, arith, ltb-true, lt-ltb, eqb-true}
 use Rattle.std.proofs.lemmas.List.{append_assoc, append-nil, map-append}
-use Rattle.std.specs.List.{flat_map, AllByRecursion as All}
+use Rattle.std.specs.List.{AllByRecursion}
 use Rattle.tokens.specs.Cuts.{pieces}
 use Rattle.tokens.specs.Numbers.{number_of}
 use Rattle.script.specs.Reading.{Cursor, Read, then, making, field_read, number_from, number, at_most_255, byte, file_page, anonymous_page, byte_write, command, whole, read_line}
@@ -222,16 +222,16 @@ some_number (Counts g) = (g, [], refl)
 abbrev Short : ℕ → Type 0
 Short n = n < 2 ^ 64
 
-short_page : (p : FilePage) (ns : List ℕ) → FilePageFits p → All Short ns → All Short (file_page_numbers p ++ ns)
+short_page : (p : FilePage) (ns : List ℕ) → FilePageFits p → AllByRecursion Short ns → AllByRecursion Short (file_page_numbers p ++ ns)
 short_page p ns h a = (omega (arith, h.0), (omega (arith, h.1), (omega (arith, h.2), a)))
 
-short_anonymous : (p : AnonymousPage) (ns : List ℕ) → AnonymousPageFits p → All Short ns → All Short (anonymous_page_numbers p ++ ns)
+short_anonymous : (p : AnonymousPage) (ns : List ℕ) → AnonymousPageFits p → AllByRecursion Short ns → AllByRecursion Short (anonymous_page_numbers p ++ ns)
 short_anonymous p ns h a = (omega (arith, h.0), (omega (arith, h.1), a))
 
-short_write : (w : ByteWrite) → WriteFits w → All Short (write_numbers w)
+short_write : (w : ByteWrite) → WriteFits w → AllByRecursion Short (write_numbers w)
 short_write w h = (omega (arith, h.0), (omega (arith, h.1), tt))
 
-short_numbers : (c : Command) → CommandFits c → All Short (command_numbers c)
+short_numbers : (c : Command) → CommandFits c → AllByRecursion Short (command_numbers c)
 short_numbers (Admit g) h = (omega (arith, h), tt)
 short_numbers (Leave g) h = (omega (arith, h), tt)
 short_numbers (ReadFile p) h = short_page p [] h tt
@@ -249,7 +249,7 @@ reads_back c h =
     let k = some_number c in
     let n = k.0 in
     let ns = k.1 in
-    let short : All Short (n ∷ ns) = subst (All Short) k.2 (short_numbers c h) in
+    let short : AllByRecursion Short (n ∷ ns) = subst (AllByRecursion Short) k.2 (short_numbers c h) in
     let cut = numbers_back n ns short.0 short.1 in
     let b = command_back c 1 [] h in
     ap (λ (m : List ℕ). read_line (command_letter c ∷ spaced m)) k.2

@@ -1,11 +1,11 @@
 -- Numbers with a space before each, and the pieces that they are cut into.
-use Rattle.std.proofs.Common.{◌≡◌, ℕ, ◌+◌, ◌^◌, ◌<◌, Bool, true, false, cond, ◌&&◌, eqb, ltb, List, [], ◌∷◌, ◌++◌, map, length, take, drop, decimal, sym, refl, ap, ◌∙◌, arith, rules, eq-eqb, ne_eqb, eqb-true}
+use Rattle.std.proofs.Common.{◌≡◌, ℕ, ◌^◌, ◌<◌, Bool, true, false, cond, eqb, List, [], ◌∷◌, ◌++◌, map, decimal, sym, refl, ap, ◌∙◌, eq-eqb, ne_eqb, eqb-true}
 use Rattle.std.proofs.lemmas.List.{append-nil}
 use Rattle.std.proofs.lemmas.Bool.{and_parts, true≢false}
-use Rattle.std.specs.List.{flat_map, AllByRecursion as All}
+use Rattle.std.specs.List.{flat_map, AllByRecursion}
 use Rattle.std.specs.Char.{is_ascii_digit}
 use Rattle.std.specs.Str.{all_ascii_digits}
-use Rattle.tokens.specs.Cuts.{before, pieces, onto}
+use Rattle.tokens.specs.Cuts.{pieces, onto}
 use Rattle.tokens.proofs.Numerals.{decimal_digits}
 use Rattle.tokens.proofs.Pieces.{pieces_step}
 
@@ -58,7 +58,7 @@ digits_lack (c ∷ cs) a =
     (ne_eqb c 32 (λ e. true≢false (sym d.0 ∙ ap is_ascii_digit e)), digits_lack cs d.1)
 
 -- numbers are cut into just those numbers
-pub numbers_back : (n : ℕ) (ns : List ℕ) → n < 2 ^ 64 → All (λ m. m < 2 ^ 64) ns → pieces 32 (decimal n ++ spaced ns) ≡ decimal n ∷ map decimal ns
+pub numbers_back : (n : ℕ) (ns : List ℕ) → n < 2 ^ 64 → AllByRecursion (λ m. m < 2 ^ 64) ns → pieces 32 (decimal n ++ spaced ns) ≡ decimal n ∷ map decimal ns
 numbers_back n [] h hs = rw append-nil (pieces_last 32 (decimal n) (digits_lack (decimal n) (decimal_digits n h)))
 numbers_back n (m ∷ ms) h hs =
     pieces_mark 32 (decimal n) (decimal m ++ spaced ms) (digits_lack (decimal n) (decimal_digits n h))

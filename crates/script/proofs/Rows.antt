@@ -1,10 +1,10 @@
 -- The lines of a script, over plain lists.
-use Rattle.std.proofs.Common.{◌≡◌, ℕ, suc, ◌+◌, ◌-◌, ◌<◌, ◌≤◌, min, Bool, true, false, cond, not, eqb, ltb, List, [], ◌∷◌, ◌++◌, length, take, drop, Some, None, Err, Option, sym, refl, ap, ◌∙◌, inl, inr, add-one, one-add, arith, length-drop, length-take, lt-ltb, eqb-true, le-leb}
+use Rattle.std.proofs.Common.{◌≡◌, ℕ, suc, ◌+◌, ◌-◌, ◌<◌, ◌≤◌, min, Bool, true, false, cond, not, eqb, ltb, List, [], ◌∷◌, length, take, drop, Some, Err, Option, sym, refl, ap, ◌∙◌, inl, inr, add-one, one-add, arith, length-drop, length-take, lt-ltb, eqb-true, le-leb}
 use Prim.Native.Nat.compare
 use borrow.Author.Tests.{lt-leb, eqb-false}
 use Rattle.std.proofs.lemmas.List.{take_rest, nil_from_length, drop_all}
 use Rattle.std.proofs.lemmas.Bool.{cases_lt}
-use Rattle.std.specs.List.{flat_map, AllByRecursion as All}
+use Rattle.std.specs.List.{flat_map, AllByRecursion}
 use Rattle.tokens.specs.Cuts.{before}
 use Rattle.script.specs.Lines.{Row, widened, lines_of, with_end, NoFeed, AllEnded, LinesLaw, first_text, level_line, level_or, script_level}
 use Rattle.script.specs.declared.levels.ScriptRefusal.TheVariants.{TooLong}
@@ -71,7 +71,7 @@ lines_join [] = refl
 lines_join (c ∷ s) = join_cond c s (eqb c 10) (eqb-true c 10) (lines_join s)
 
 abbrev Feedless : List Row → Type 0
-Feedless ls = All (λ l. NoFeed l.text) ls
+Feedless ls = AllByRecursion (λ l. NoFeed l.text) ls
 
 feeds_widened : (c : ℕ) (ls : List Row) → (c ≡ 10 → ⊥) → Feedless ls → Feedless (widened c ls)
 feeds_widened c [] h a = ((h, tt), tt)

@@ -1,6 +1,6 @@
 -- The lines of a script, and the level that its first line sets.
 use Rattle.std.specs.Prelude.{◌≡◌, ℕ, Bool, true, false, cond, ◌&&◌, List, [], ◌∷◌, ◌++◌, length, Some, None, Ok, Err, Option, Result, ◌==◌, ◌≢◌, nat_le}
-use Rattle.std.specs.List.{flat_map, AllByRecursion as All}
+use Rattle.std.specs.List.{flat_map, AllByRecursion}
 use Rattle.script.specs.declared.levels.Level.{Level}
 use Rattle.script.specs.declared.levels.Level.TheVariants.{Bare, Shared, Packed}
 use Rattle.script.specs.declared.levels.ScriptRefusal.{ScriptRefusal}
@@ -26,7 +26,7 @@ with_end l = l.text ++ cond l.ended (10 ∷ []) []
 
 -- no byte is a line feed
 abbrev pub NoFeed : List ℕ → Type 0
-NoFeed s = All (λ c. c ≢ 10) s
+NoFeed s = AllByRecursion (λ c. c ≢ 10) s
 
 -- only the last line may lack its end, and then it is not empty
 abbrev pub AllEnded : List Row → Type 0
@@ -37,7 +37,7 @@ AllEnded (l ∷ m ∷ ls) = (l.ended ≡ true) × AllEnded (m ∷ ls)
 -- Lines are the lines of a script: with their ends they join to it, and each ends at the first line feed.
 pub record LinesLaw (script : List ℕ) (lines : List Row) : Type 0 where
   pub join : flat_map with_end lines ≡ script
-  pub feeds : All (λ l. NoFeed l.text) lines
+  pub feeds : AllByRecursion (λ l. NoFeed l.text) lines
   pub ends : AllEnded lines
 
 -- the first line's text

@@ -1,8 +1,8 @@
 -- The tokens of a line, over plain lists.
-use Rattle.std.proofs.Common.{◌≡◌, ℕ, ◌+◌, ◌-◌, ◌<◌, ◌≤◌, cond, ltb, List, [], ◌∷◌, length, get_or, take, drop, Some, Option, sym, refl, ap, ◌∙◌, arith, length-drop, length-take, le-ltb, lt-ltb}
+use Rattle.std.proofs.Common.{◌≡◌, ℕ, ◌+◌, ◌-◌, ◌<◌, ◌≤◌, List, [], ◌∷◌, length, get_or, take, drop, Some, ap, ◌∙◌, arith, length-drop, length-take, le-ltb, lt-ltb}
 use Rattle.std.proofs.lemmas.List.{take_rest}
 use Rattle.tokens.specs.Cuts.{before}
-use Rattle.tokens.specs.Spans.{Left, line, fields, nothing}
+use Rattle.tokens.specs.Spans.{line, fields, nothing}
 use Rattle.tokens.specs.Tokens.{Lexeme, letter, field_lexeme, first_token, after_token}
 
 pub letter_first : (s : List ℕ) (at c : ℕ) → 2 ≤ length s → get_or s 1 0 ≡ 32 → c ≡ get_or s 0 0

@@ -6,7 +6,7 @@ use Rattle.std.specs.Char.{is_ascii_digit}
 use Rattle.std.specs.Str.{all_ascii_digits}
 use Rattle.std.proofs.lemmas.Str.Parse.{IsNumeralModel, numerals_by_fold}
 use Rattle.std.proofs.lemmas.Fmt.{digits_decimal, digits_value-decimal, decimal-digits_value, decimal_nonempty, first_decimal, decimal_digit}
-use Rattle.tokens.specs.Numbers.{appended, scanned, zero_first, number_of}
+use Rattle.tokens.specs.Numbers.{scanned, zero_first, number_of}
 
 -- the number that digits write behind n
 abbrev read_on : ℕ → List ℕ → ℕ

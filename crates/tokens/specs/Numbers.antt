@@ -1,5 +1,5 @@
 -- The numbers of a script: decimal digits, no needless leading zero, at most 65,535.
-use Rattle.std.specs.Prelude.{ℕ, ◌+◌, ◌-◌, ◌*◌, ◌^◌, Bool, true, false, cond, ◌&&◌, List, [], ◌∷◌, Some, None, Option, ◌==◌, nat_lt}
+use Rattle.std.specs.Prelude.{ℕ, ◌+◌, ◌-◌, ◌*◌, ◌^◌, Bool, false, cond, ◌&&◌, List, [], ◌∷◌, Some, None, Option, ◌==◌, nat_lt}
 use Rattle.std.specs.Char.{is_ascii_digit}
 
 -- the number n with the digit c behind it, while it stays below 65,536

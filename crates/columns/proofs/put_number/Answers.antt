@@ -8,8 +8,8 @@ loop-rest-init c =
     begun_none c.args.number _ _ (c.fill.ensures.after (λ y p. p) ∙ ap (λ (w : ℕ). replicate {A = ℕ} w 32) (sym c.fill.ensures.len)) (omega arith)
     (omega arith)
 
-pub overflow-sub-place : goal.overflow-sub-place
-overflow-sub-place c = room c.loop-rest.invariant
+pub overflow_sub-place : goal.overflow_sub-place
+overflow_sub-place c = room c.loop-rest.invariant
 
 pub bounds-field-place : goal.bounds-field-place
 bounds-field-place c =

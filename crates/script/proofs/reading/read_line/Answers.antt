@@ -9,9 +9,9 @@ pub returns-in-Some : goal.returns-in-Some
 returns-in-Some c =
     let t = c.new-tokens.result in
     let e = c.in-Some.ensures in
-    let value : c.whole-command.result ≡ read_line c.args.line.now
-    = c.whole-command.ensures
-    ∙ line_by_letter c.args.line.now (left t.rest) (left c.next-letter.new.self.rest) t.place _
+    let value : c.whole_command.result ≡ read_line c.args.line.now
+    = c.whole_command.ensures
+    ∙ line_by_letter c.args.line.now (left t.rest) (left c.next_letter.new.self.rest) t.place _
     c.new-tokens.ensures.rest e.value e.after in
     record { value = value; exact = exact_reading c.args.line.now _ value }
 
@@ -20,6 +20,6 @@ returns-in-None c =
     let t = c.new-tokens.result in
     let e = c.in-None.ensures in
     let value
-    = line_by_letter c.args.line.now (left t.rest) (left c.next-letter.new.self.rest) t.place _
+    = line_by_letter c.args.line.now (left t.rest) (left c.next_letter.new.self.rest) t.place _
     c.new-tokens.ensures.rest e.value e.after in
     record { value = value; exact = exact_reading c.args.line.now _ value }

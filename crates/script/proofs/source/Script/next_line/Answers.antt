@@ -2,8 +2,8 @@ use Rattle.std.proofs.Common.{◌<◌, ◌≤◌, length, refl, arith, rules}
 use Rattle.script.proofs.Rows.{no_lines, first_line, later_lines, rest_length}
 use Rattle.script.proofs.source.Script.next_line.Goals as goal
 
-pub returns-then-is-empty : goal.returns-then-is-empty
-returns-then-is-empty c = search (rules, no_lines)
+pub returns-then-is_empty : goal.returns-then-is_empty
+returns-then-is_empty c = search (rules, no_lines)
 
 pub returns : goal.returns
 returns c =
