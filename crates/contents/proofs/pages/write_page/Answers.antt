@@ -10,7 +10,7 @@ returns c =
     let place = c.args.place in
     let page = c.args.page.now in
     let laid =
-    overlaid_by c.as-mut-slice-bytes.result.now (start_of place) page _ c.copy-from-slice.ensures.after
-    ∙ ap (λ (bytes : List ℕ). put_page bytes place page) c.as-mut-slice-bytes.ensures.value in
+    overlaid_by c.as_mut_slice-bytes.result.now (start_of place) page _ c.copy_from_slice.ensures.after
+    ∙ ap (λ (bytes : List ℕ). put_page bytes place page) c.as_mut_slice-bytes.ensures.value in
     let long = ap length laid ∙ length_put_page (vec_items area) place page c.requires.exists c.requires.whole ∙ sym area.ok.0 in
     with_items_is area _ long ∙ laid

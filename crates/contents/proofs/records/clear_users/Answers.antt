@@ -9,8 +9,8 @@ loop-i-init c =
     let v = c.args.records.now.ok.0 in
     (omega (arith, length_users (vec_items c.args.records.now)), λ k l. absurd (omega arith))
 
-pub set-users-requires : goal.set-users-requires
-set-users-requires c =
+pub set_users-requires : goal.set_users-requires
+set_users-requires c =
     let v = c.loop-i.records.ok.0 in
     omega (arith, length_users (vec_items c.loop-i.records))
 
@@ -18,7 +18,7 @@ pub loop-i-preserved : goal.loop-i-preserved
 loop-i-preserved c =
     let us = users_in (vec_items c.loop-i.records) in
     let i = c.loop-i.i in
-    let e = c.set-users.ensures.users in
+    let e = c.set_users.ensures.users in
     let h : i < length us = omega arith in
     (rw e (length-set us i 0 ∙ c.loop-i.invariant.0), rw e (cleared_more us i h c.loop-i.invariant.1))
 

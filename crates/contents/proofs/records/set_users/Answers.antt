@@ -9,5 +9,5 @@ returns c =
     let h : c.args.content < length rs = omega arith in
     record {
       users = users_set rs c.args.content _;
-      fingerprints = fingerprints_kept rs c.args.content c.index-mut.result.now _ h c.index-mut.ensures.value refl;
+      fingerprints = fingerprints_kept rs c.args.content c.index_mut.result.now _ h c.index_mut.ensures.value refl;
     }

@@ -5,7 +5,7 @@ use Rattle.contents.specs.declared.records.ContentRecord.{ContentRecord}
 use Rattle.contents.proofs.Columns.{length_users, users_read, fingerprints_read}
 use Rattle.contents.proofs.Prints.{print_tells}
 use Rattle.contents.proofs.search.find_page.Goals as goal
-use Rattle.contents.proofs.search.find_page.Goals.{else-record-ne0-via-then-record-ne0+then-record-fingerprint+else-lies-at, else-record-ne0-via-then-record-ne0+else-record-fingerprint, else-record-ne0-via-else-record-ne0}
+use Rattle.contents.proofs.search.find_page.Goals.{else-record-ne0-via-then-record-ne0+then-record-fingerprint+else-lies_at, else-record-ne0-via-then-record-ne0+else-record-fingerprint, else-record-ne0-via-else-record-ne0}
 
 blank : ContentRecord
 blank = record { users = 0; fingerprint = 0 }
@@ -13,16 +13,16 @@ blank = record { users = 0; fingerprint = 0 }
 apart : false ≡ true → ⊥
 apart e = search rules
 
-pub returns-then-lies-at : goal.returns-then-lies-at
+pub returns-then-lies_at : goal.returns-then-lies_at
 unfolding blank
-returns-then-lies-at c =
+returns-then-lies_at c =
     let rs = c.args.records.now in
     let i = c.loop-i.i in
     let h : i < length rs = omega arith in
     record {
       within = omega (arith, length_users rs);
       used = omega (arith, users_read rs i blank h);
-      same = c.if-lies-at.ensures.0 refl;
+      same = c.if-lies_at.ensures.0 refl;
     }
 
 pub loop-i-preserved : goal.loop-i-preserved
@@ -33,7 +33,7 @@ loop-i-preserved c =
     let h : i < length rs = omega arith in
     let other : Holds (users_in rs) c.args.area.now c.args.page.now i → ⊥ =
     elim c.else-record-ne0.branch [
-      | else-record-ne0-via-then-record-ne0+then-record-fingerprint+else-lies-at w ↦ λ holds. apart (sym w.if-lies-at.false ∙ w.lies-at.ensures.1 holds.same)
+      | else-record-ne0-via-then-record-ne0+then-record-fingerprint+else-lies_at w ↦ λ holds. apart (sym w.if-lies_at.false ∙ w.lies_at.ensures.1 holds.same)
       | else-record-ne0-via-then-record-ne0+else-record-fingerprint w ↦ λ holds. w.if-record-fingerprint.false (sym (fingerprints_read rs i blank h) ∙ print_tells (users_in rs) (fingerprints_in rs) c.args.area.now c.args.page.now i c.requires.printed holds ∙ sym c.requires.print)
       | else-record-ne0-via-else-record-ne0 w ↦ λ holds. omega (arith, holds.used, users_read rs i blank h)
     ] in

@@ -6,8 +6,8 @@ use Rattle.contents.proofs.Facts.{whole_of, size_paged}
 use Rattle.contents.proofs.Outcomes.{told_found, told_absent}
 use Rattle.contents.proofs.store.Contents.acquire.Goals as goal
 
-pub find-page-requires : goal.find-page-requires
-find-page-requires c =
+pub find_page-requires : goal.find_page-requires
+find_page-requires c =
     let w = whole_of c.args.self.now in
     let rs = vec_items c.args.self.now.records in
     let e = c.deref.ensures.value in
@@ -16,7 +16,7 @@ find-page-requires c =
       few = rw e (omega (arith, length_users rs, w.few));
       paged = rw (e, a) (omega (arith, length_users rs, w.paged));
       printed = rw (e, a) w.printed;
-      print = c.fingerprint-of-fingerprint.ensures;
+      print = c.fingerprint_of-fingerprint.ensures;
     }
 
 pub returns-in-Some : goal.returns-in-Some

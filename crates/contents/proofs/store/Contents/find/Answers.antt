@@ -3,8 +3,8 @@ use Rattle.contents.proofs.Columns.{length_users}
 use Rattle.contents.proofs.Facts.{whole_of, page_length}
 use Rattle.contents.proofs.store.Contents.find.Goals as goal
 
-pub find-page-requires : goal.find-page-requires
-find-page-requires c =
+pub find_page-requires : goal.find_page-requires
+find_page-requires c =
     let w = whole_of c.args.self.now in
     let rs = vec_items c.args.self.now.records in
     let e = c.deref.ensures.value in
@@ -17,7 +17,7 @@ find-page-requires c =
     }
 
 -- every content is as long as a page
-pub returns-then-page-ne-PAGE-BYTES : goal.returns-then-page-ne-PAGE-BYTES
-returns-then-page-ne-PAGE-BYTES c i holds =
+pub returns-then-page-ne-PAGE_BYTES : goal.returns-then-page-ne-PAGE_BYTES
+returns-then-page-ne-PAGE_BYTES c i holds =
     let e = ap length holds.same in
     omega (arith, page_length c.args.self.now i holds.within)

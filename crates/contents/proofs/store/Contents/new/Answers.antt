@@ -6,16 +6,16 @@ use Rattle.contents.proofs.Keeping.{whole_none}
 use Rattle.contents.specs.Records.{fingerprints_in}
 use Rattle.contents.proofs.store.Contents.new.Goals as goal
 
-pub invariant-of-result : goal.invariant-of-result
-invariant-of-result c =
+pub invariant_of-result : goal.invariant_of-result
+invariant_of-result c =
     let area = vec_items c.args.bytes in
     let given = vec_items c.args.records in
-    let rs = vec_items c.clear-users.new.records in
+    let rs = vec_items c.clear_users.new.records in
     let n = length (vec_items c.truncate.new.self) in
     let v = c.args.bytes.ok.0 in
     let cut = ap length c.truncate.ensures.items ∙ length-take c.min.result given in
     let m = c.min.ensures in
-    let u = c.clear-users.ensures in
+    let u = c.clear_users.ensures in
     let few : n ≤ 4096 = omega arith in
     let paged : n ≤ pages_in area = omega arith in
     let long = ap length u ∙ length-replicate n 0 in

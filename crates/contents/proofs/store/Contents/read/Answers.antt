@@ -4,15 +4,15 @@ use Rattle.contents.specs.View.{users_of}
 use Rattle.contents.proofs.Facts.{size_is, size_paged}
 use Rattle.contents.proofs.store.Contents.read.Goals as goal
 
-pub read-page-requires : goal.read-page-requires
-read-page-requires c =
+pub read_page-requires : goal.read_page-requires
+read_page-requires c =
     let self = c.args.self.now in
     let p = size_paged self in
     let s = size_is self in
     record { exists = rw c.deref.ensures.value (omega arith); whole = search rules }
 
-pub returns-then-out-eq-PAGE-BYTES : goal.returns-then-out-eq-PAGE-BYTES
-returns-then-out-eq-PAGE-BYTES c =
+pub returns-then-out-eq-PAGE_BYTES : goal.returns-then-out-eq-PAGE_BYTES
+returns-then-out-eq-PAGE_BYTES c =
     let self = c.args.self.now in
     let s = size_is self in
     let l : c.args.content < length (users_of self) = omega arith in

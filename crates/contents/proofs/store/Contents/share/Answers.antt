@@ -5,13 +5,13 @@ use Rattle.contents.proofs.InUse.{used_within}
 use Rattle.contents.proofs.Keeping.{whole_shared}
 use Rattle.contents.proofs.store.Contents.share.Goals as goal
 
-pub set-users-requires : goal.set-users-requires
-set-users-requires c =
+pub set_users-requires : goal.set_users-requires
+set_users-requires c =
     let self = c.args.self.now in
     omega (arith, size_is self, used_within (users_of self) c.args.content c.requires)
 
-pub invariant-of-self : goal.invariant-of-self
-invariant-of-self c =
+pub invariant_of-self : goal.invariant_of-self
+invariant_of-self c =
     let self = c.args.self.now in
-    let e = c.set-users.ensures in
+    let e = c.set_users.ensures in
     (∣ rw (e.users, e.fingerprints) (whole_shared (whole_of self) c.args.content c.requires _ (omega arith)) ∣₁, tt)

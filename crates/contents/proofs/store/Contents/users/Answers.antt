@@ -4,8 +4,8 @@ use Rattle.contents.specs.View.{users_of}
 use Rattle.contents.proofs.Columns.{length_users}
 use Rattle.contents.proofs.store.Contents.users.Goals as goal
 
-pub users-of-requires : goal.users-of-requires
-users-of-requires c = rw c.deref.ensures.value (omega (arith, length_users (vec_items c.args.self.now.records)))
+pub users_of-requires : goal.users_of-requires
+users_of-requires c = rw c.deref.ensures.value (omega (arith, length_users (vec_items c.args.self.now.records)))
 
 pub returns-else-content-size : goal.returns-else-content-size
 returns-else-content-size c = sym (get_or_past (users_of c.args.self.now) c.args.content 0 (omega arith))

@@ -78,7 +78,7 @@ after c =
     let some : h.count < h.size = omega (arith, w.fits) in
     let first = c.newer_than-place.ensures ∙ ap (newer_in t) c.free_end.ensures in
     let absent : is_some (place_of c.args.key.number (holdings h)) ≡ false = ap is_some (sym c.find.ensures) ∙ (sym c.is_some.ensures ∙ c.if-is_some.false) in
-    let low : c.args.key.number < 2 ^ 32 = let e = c.number.ensures in let f = c.number.type_inv in omega arith in
+    let low : c.args.key.number < 2 ^ 32 = omega (arith, c.number.ensures) in
     let u = c.unlink.ensures in
     let l = c.link_before.ensures in
     let s = c.set_key.ensures in
