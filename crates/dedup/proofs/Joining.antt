@@ -1,11 +1,11 @@
 -- Pages that join and leave the deduplicating store.
-use Rattle.std.proofs.Common.{◌≡◌, ℕ, ◌+◌, ◌-◌, ◌<◌, ◌≤◌, Bool, true, false, cond, not, eqb, ◌⊎◌, List, [], ◌∷◌, ◌++◌, length, get_or, drop, set, Some, None, sym, refl, ap, ◌∙◌, subst, inl, inr, arith}
+use Rattle.std.proofs.Common.{◌≡◌, ℕ, ◌+◌, ◌-◌, ◌<◌, ◌≤◌, true, false, not, eqb, ◌⊎◌, List, [], ◌∷◌, ◌++◌, length, get_or, drop, set, Some, None, sym, refl, ap, ◌∙◌, inl, inr, arith}
 use Rattle.std.proofs.lemmas.List.Elements.{filter-append}
 use Rattle.std.proofs.ByRecursion.{All-weaker}
 use Rattle.std.proofs.lemmas.List.{append-nil, get_or-set_same, get_or-set_other}
 use Rattle.std.proofs.lemmas.Bool.{cond-false, eq-eqb, not_from_true}
 use Rattle.std.specs.List.{AllByRecursion}
-use Rattle.page.specs.Memory.{pages_in, start_of, page_at, put_page}
+use Rattle.page.specs.Memory.{pages_in, start_of, page_at}
 use Rattle.page.proofs.Areas.{rest_apart}
 use Rattle.backend.specs.Rules.{Entry}
 use Rattle.contents.specs.Calls.{Shared, Stored, Refused}

@@ -1,16 +1,15 @@
 -- Contents counted by their users. `cs` has the content of each held page, `users` the number of users of each content, and the
 -- page of a content lies at its place of `area`.
-use Rattle.std.specs.Prelude.{◌≡◌, ℕ, zero, suc, ◌+◌, ◌-◌, ◌<◌, ◌≤◌, Bool, true, false, cond, ◌||◌, leb, ◌⊎◌, List, [], ◌∷◌, ◌++◌, map, length, count_by, ◌==◌, ◌≢◌, nat_le, slice_index, slice_index_or, slice_set, refl}
+use Rattle.std.specs.Prelude.{◌≡◌, ℕ, suc, ◌+◌, ◌-◌, ◌<◌, ◌≤◌, Bool, true, false, cond, ◌||◌, leb, List, [], ◌∷◌, ◌++◌, length, count_by, ◌==◌, ◌≢◌, nat_le, slice_index, slice_index_or, slice_set, refl}
 use Rattle.std.proofs.Math.Logic.{inl, inr}
-use Rattle.std.proofs.Common.{sym, ap, subst, ◌∙◌, arith}
-use Rattle.std.proofs.lemmas.List.{get_or_past, get_or-set_same, get_or-set_other, length-set, set_past}
+use Rattle.std.proofs.Common.{sym, ap, ◌∙◌, arith}
+use Rattle.std.proofs.lemmas.List.{get_or_past, get_or-set_same, get_or-set_other}
 use Rattle.std.proofs.lemmas.List.Sums.{sum_by-cons, sum_by_push, sum_by-set}
-use Rattle.std.proofs.lemmas.Bool.{cases_Bool, cases_eq, cases_lt, cond-true, cond-false, eqb-true, eq-eqb, ne_eqb, le-leb, lt-leb, or_left, or_right, or_from, true≢false, false≢true}
-use Rattle.std.specs.List.{AllByRecursion}
+use Rattle.std.proofs.lemmas.Bool.{cases_eq, cases_lt, cond-true, cond-false, eq-eqb, ne_eqb, le-leb, lt-leb, or_left, or_right, false≢true}
 use Rattle.backend.specs.Rules.{Entry}
 use Rattle.dedup.specs.Shares.{uses}
 use Rattle.dedup.specs.Different.{same_page, page_held, different}
-use Rattle.dedup.specs.Equal.{equal_pages, same_pages, other_pages}
+use Rattle.dedup.specs.Equal.{equal_pages, same_pages}
 
 -- each content has as many users as held pages have it
 abbrev pub Counted : List ℕ → List ℕ → Type 0

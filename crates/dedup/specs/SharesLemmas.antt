@@ -3,7 +3,7 @@ use Rattle.std.specs.Prelude.{◌≡◌, ℕ, ◌+◌, Bool, true, false, cond, 
 use Rattle.std.proofs.Common.{sym, ap, subst, ◌∙◌, arith}
 use Rattle.std.proofs.lemmas.List.{map-append}
 use Rattle.std.proofs.lemmas.List.Sums.{sum_by-cons}
-use Rattle.std.proofs.lemmas.Bool.{cond-true, cond-false, eqb-true, ne_eqb, not_from_false}
+use Rattle.std.proofs.lemmas.Bool.{cond-true, eqb-true, ne_eqb, not_from_false}
 use Rattle.std.specs.List.{AllByRecursion}
 use Rattle.held.specs.Entries.{entries_by}
 use Rattle.held.specs.Holdings.{Holding, keys, taken, place_of, without_key}

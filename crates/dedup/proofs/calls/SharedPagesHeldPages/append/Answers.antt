@@ -1,4 +1,4 @@
-use Rattle.std.proofs.Common.{◌≡◌, ℕ, ◌<◌, Bool, true, cond, ◌⊎◌, List, [], ◌∷◌, ◌++◌, length, get_or, drop, set, is_some, Some, None, vec_items, sym, refl, ap, ◌∙◌, inl, inr, arith, eq-eqb}
+use Rattle.std.proofs.Common.{◌≡◌, ℕ, ◌<◌, true, ◌⊎◌, List, length, get_or, drop, set, is_some, vec_items, sym, refl, ap, ◌∙◌, inl, inr, arith, eq-eqb}
 use Rattle.std.proofs.lemmas.List.{length-set}
 use Rattle.page.specs.Memory.{page_at, start_of}
 use Rattle.contents.specs.View.{users_of, contents_area}
@@ -46,10 +46,10 @@ invariant_of-self-in_default-acquire c =
     let p = c.in-Some.place in
     let e = c.in-Some.ensures in
     let a = c.in_default-acquire.ensures.outcome in
-    let back : holdings c.remove.new.self ≡ H = c.remove.ensures.after ∙ (ap (without_key k) e.cases.4 ∙ without_pushed k p H e.cases.0) in (
-      (λ i. ap (λ (us : List ℕ). get_or us i 0) a.0 ∙ (b.counted i ∙ ap (λ (R : List Holding). uses i (contents_by (λ q. get_or noted q 0) R)) (sym back))),
-      (b.long ∙ sym (c.remove.ensures.size ∙ e.size), tt),
-    )
+    let back : holdings c.remove.new.self ≡ H = c.remove.ensures.after ∙ (ap (without_key k) e.cases.4 ∙ without_pushed k p H e.cases.0) in record {
+      counted = (λ i. ap (λ (us : List ℕ). get_or us i 0) a.0 ∙ (b.counted i ∙ ap (λ (R : List Holding). uses i (contents_by (λ q. get_or noted q 0) R)) (sym back)));
+      long = b.long ∙ sym (c.remove.ensures.size ∙ e.size);
+    }
 
 pub returns-in_default-acquire : goal.returns-in_default-acquire
 returns-in_default-acquire c =
@@ -85,10 +85,10 @@ invariant_of-self-2 c =
     let a = c.in-Some-acquire.ensures in
     let counted =
     joined_counted (users_of b.contents) (contents_area b.contents) noted (holdings b.held) b.counted (pages_apart b.contents)
-    c.args.key.number c.in-Some.place c.in-Some-acquire.content c.args.page.now _ _ e.cases.3 (omega (arith, e.cases.2, b.long)) a.outcome.1 in (
-      (λ i. counted i ∙ ap (λ (R : List Holding). uses i (contents_by (λ q. get_or (set noted c.in-Some.place c.in-Some-acquire.content) q 0) R)) (sym e.cases.4)),
-      (length-set noted _ _ ∙ (b.long ∙ sym e.size), tt),
-    )
+    c.args.key.number c.in-Some.place c.in-Some-acquire.content c.args.page.now _ _ e.cases.3 (omega (arith, e.cases.2, b.long)) a.outcome.1 in record {
+      counted = (λ i. counted i ∙ ap (λ (R : List Holding). uses i (contents_by (λ q. get_or (set noted c.in-Some.place c.in-Some-acquire.content) q 0) R)) (sym e.cases.4));
+      long = length-set noted _ _ ∙ (b.long ∙ sym e.size);
+    }
 
 pub returns : goal.returns
 returns c =

@@ -1,8 +1,7 @@
-use Rattle.std.proofs.Common.{ℕ, length, get_or, vec_items}
+use Rattle.std.proofs.Common.{ℕ, get_or, vec_items}
 use Rattle.page.specs.Memory.{page_at}
 use Rattle.contents.specs.View.{users_of, contents_area}
-use Rattle.contents.proofs.Facts.{pages_apart}
-use Rattle.held.specs.View.{holdings, size_of}
+use Rattle.held.specs.View.{holdings}
 use Rattle.held.proofs.Entries.{first_found}
 use Rattle.dedup.proofs.calls.SharedPagesHeldPages.first_from.Goals as goal
 

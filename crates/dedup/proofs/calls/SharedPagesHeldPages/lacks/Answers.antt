@@ -1,5 +1,4 @@
-use Rattle.std.proofs.Common.{ℕ, length, get_or, is_some, vec_items, sym, refl, ◌∙◌, arith}
-use Rattle.page.specs.Memory.{page_at}
+use Rattle.std.proofs.Common.{ℕ, get_or, is_some, vec_items, sym, refl, ◌∙◌, arith}
 use Rattle.contents.specs.View.{users_of, contents_area}
 use Rattle.contents.proofs.Facts.{pages_apart}
 use Rattle.held.specs.View.{holdings, size_of}

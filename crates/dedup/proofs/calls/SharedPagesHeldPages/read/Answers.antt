@@ -2,7 +2,7 @@ use Rattle.std.proofs.Common.{ℕ, Bool, cond, ◌&&◌, eqb, ltb, length, get_o
 use Rattle.page.specs.Memory.{page_at}
 use Rattle.contents.specs.View.{users_of, contents_area}
 use Rattle.contents.proofs.Facts.{pages_apart}
-use Rattle.held.specs.View.{holdings, size_of}
+use Rattle.held.specs.View.{holdings}
 use Rattle.std.proofs.lemmas.List.{get_or_read_under}
 use Rattle.held.proofs.Entries.{missed}
 use Rattle.held.proofs.Facts.{place_below}

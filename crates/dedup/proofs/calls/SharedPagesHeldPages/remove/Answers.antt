@@ -1,4 +1,4 @@
-use Rattle.std.proofs.Common.{◌≡◌, ℕ, ◌-◌, List, length, get_or, drop, set, vec_items, sym, refl, ap, ◌∙◌, subst, arith}
+use Rattle.std.proofs.Common.{◌≡◌, ℕ, ◌-◌, List, length, get_or, drop, set, vec_items, sym, refl, ap, ◌∙◌, arith}
 use Rattle.std.proofs.lemmas.List.{get_or_read_under, length-set}
 use Rattle.page.specs.Memory.{page_at, start_of}
 use Rattle.contents.specs.View.{users_of, contents_area}
@@ -9,7 +9,6 @@ use Rattle.held.specs.View.{holdings, size_of}
 use Rattle.held.proofs.Entries.{without_entries}
 use Rattle.held.proofs.Facts.{keys_apart, place_below}
 use Rattle.dedup.specs.Shares.{contents_by, uses}
-use Rattle.dedup.specs.Counting.{Counted}
 use Rattle.dedup.proofs.Joining.{fixed_same, left_counted}
 use Rattle.dedup.specs.SharesLemmas.{without_none}
 use Rattle.dedup.proofs.calls.SharedPagesHeldPages.remove.Goals as goal
@@ -29,22 +28,22 @@ invariant_of-self c =
     let k = c.args.key.number in
     let e = c.in-Some.ensures in
     let content = get_or_read_under noted p (length noted) c.index.result.now 0 c.index.ensures (omega (arith, place_below b.held k p (sym e.value), b.long)) refl in
-    let less = left_counted users (contents_area b.contents) noted (holdings b.held) b.counted (pages_apart b.contents) k p (keys_apart b.held) (sym e.value) in (
-      (λ i.
+    let less = left_counted users (contents_area b.contents) noted (holdings b.held) b.counted (pages_apart b.contents) k p (keys_apart b.held) (sym e.value) in record {
+      counted = (λ i.
           ap (λ (us : List ℕ). get_or us i 0) (c.release.ensures.users ∙ ap (λ (j : ℕ). set users j (get_or users j 0 - 1)) content)
-          ∙ (less i ∙ ap (λ (H : List Holding). uses i (contents_by (λ q. get_or noted q 0) H)) (sym e.after))),
-      (b.long ∙ sym e.size, tt),
-    )
+          ∙ (less i ∙ ap (λ (H : List Holding). uses i (contents_by (λ q. get_or noted q 0) H)) (sym e.after)));
+      long = b.long ∙ sym e.size;
+    }
 
 pub invariant_of-self-in_default : goal.invariant_of-self-in_default
 invariant_of-self-in_default c =
     let b = c.args.self.now in
     let noted = vec_items b.content_at in
     let e = c.in_default.ensures in
-    let same : holdings c.remove.new.self ≡ holdings b.held = e.after ∙ without_none c.args.key.number (holdings b.held) (sym e.value) in (
-      (λ i. b.counted i ∙ ap (λ (H : List Holding). uses i (contents_by (λ q. get_or noted q 0) H)) (sym same)),
-      (b.long ∙ sym e.size, tt),
-    )
+    let same : holdings c.remove.new.self ≡ holdings b.held = e.after ∙ without_none c.args.key.number (holdings b.held) (sym e.value) in record {
+      counted = (λ i. b.counted i ∙ ap (λ (H : List Holding). uses i (contents_by (λ q. get_or noted q 0) H)) (sym same));
+      long = b.long ∙ sym e.size;
+    }
 
 pub returns-in-Some : goal.returns-in-Some
 returns-in-Some c =

@@ -1,8 +1,7 @@
-use Rattle.std.proofs.Common.{ℕ, length, get_or, vec_items, sym, ap, ◌∙◌}
+use Rattle.std.proofs.Common.{ℕ, get_or, vec_items, sym, ap, ◌∙◌}
 use Rattle.page.specs.Memory.{page_at}
 use Rattle.contents.specs.View.{users_of, contents_area}
-use Rattle.contents.proofs.Facts.{pages_apart}
-use Rattle.held.specs.View.{holdings, size_of}
+use Rattle.held.specs.View.{holdings}
 use Rattle.backend.specs.Victims.{victim}
 use Rattle.held.proofs.Entries.{keys_entries}
 use Rattle.dedup.proofs.calls.SharedPagesHeldPages.victim.Goals as goal

@@ -1,4 +1,4 @@
-use Rattle.std.proofs.Common.{◌≡◌, ℕ, ◌≤◌, min, List, length, get_or, vec_items, sym, ap, ◌∙◌, arith}
+use Rattle.std.proofs.Common.{◌≡◌, ℕ, List, length, get_or, vec_items, sym, ap, ◌∙◌, arith}
 use Rattle.std.proofs.lemmas.List.{length-replicate}
 use Rattle.page.specs.Memory.{page_at}
 use Rattle.contents.specs.View.{contents_area}
@@ -16,12 +16,12 @@ invariant_of-result c =
     let made = c.in_ok-content_at.ensures in
     let n = made.len in
     let noted = vec_items c.in_ok-content_at.content_at in
-    let long : length noted ≡ size_of c.in_ok-held.held = omega (arith, c.size.ensures) in (
-      (λ i.
+    let long : length noted ≡ size_of c.in_ok-held.held = omega (arith, c.size.ensures) in record {
+      counted = (λ i.
           ap (λ (us : List ℕ). get_or us i 0) c.new-contents.ensures.users
-          ∙ (get_or_zeros _ i ∙ ap (λ (H : List Holding). uses i (contents_by (λ q. get_or noted q 0) H)) (sym h.0))),
-      (long, tt),
-    )
+          ∙ (get_or_zeros _ i ∙ ap (λ (H : List Holding). uses i (contents_by (λ q. get_or noted q 0) H)) (sym h.0)));
+      long = long;
+    }
 
 pub returns : goal.returns
 returns c =
