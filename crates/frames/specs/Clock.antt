@@ -1,5 +1,5 @@
 -- A guest's frames and hand: where a page is, which frame a fault takes, and what an access and emptying leave.
-use Rattle.std.specs.Prelude.{ℕ, zero, suc, ◌+◌, Bool, true, false, cond, ◌&&◌, List, [], ◌∷◌, map, length, set, replicate, Some, None, Option, nat_lt, slice_index_or, slice_set}
+use Rattle.std.specs.Prelude.{ℕ, zero, suc, ◌+◌, Bool, true, false, cond, ◌&&◌, List, [], ◌∷◌, map, length, replicate, Some, None, Option, nat_lt, slice_index_or, slice_set}
 use Rattle.frames.specs.declared.pages.Page.{Page}
 use Rattle.frames.specs.Pages.{same_page}
 

@@ -1,5 +1,5 @@
 -- What the code's frames stand for: a clock, and for each frame whether its page is dirty.
-use Rattle.std.specs.Prelude.{ℕ, Bool, true, false, cond, ◌||◌, List, map, take, set, Option, slice_index_or, slice_set}
+use Rattle.std.specs.Prelude.{ℕ, Bool, true, false, cond, ◌||◌, List, map, take, Option, slice_index_or, slice_set}
 use Rattle.frames.specs.declared.pages.Page.{Page}
 use Rattle.frames.specs.declared.pages.Page.TheVariants.{File}
 use Rattle.frames.specs.declared.pages.PageSet.{PageSet}

@@ -1,10 +1,10 @@
 -- What is known of any held keys.
-use Rattle.std.proofs.Common.{◌≡◌, ℕ, ◌+◌, ◌/◌, ◌^◌, ◌<◌, ◌≤◌, true, eqb, List, [], ◌∷◌, map, length, is_some, Some, vec_items, sym, refl, ap, ◌∙◌, subst, ⊎_elim, arith}
+use Rattle.std.proofs.Common.{◌≡◌, ℕ, ◌/◌, ◌^◌, ◌<◌, ◌≤◌, true, eqb, List, [], ◌∷◌, length, is_some, Some, vec_items, sym, refl, ap, ◌∙◌, subst, ⊎_elim, arith}
 use Rattle.std.specs.List.{AllByRecursion}
 use Rattle.std.proofs.lemmas.List.{length-map}
 use Rattle.std.proofs.lemmas.Bool.{cases_eq, eq-eqb, ne_eqb, cond-true, cond-false}
 use Rattle.backend.specs.Victims.{oldest_of, fullest, victim}
-use Rattle.index.specs.Map.{look, room}
+use Rattle.index.specs.Map.{look}
 use Rattle.index.specs.View.{view, nodes, slots}
 use Rattle.held.specs.declared.held.Held.{Held}
 use Rattle.held.specs.Holdings.{Holding, keys, taken, place_of}

@@ -1,5 +1,5 @@
 -- New rings, of which one has every place.
-use Rattle.std.proofs.Common.{◌≡◌, ℕ, zero, suc, ◌+◌, ◌-◌, ◌/◌, ◌^◌, ◌<◌, ◌≤◌, min, ◌⊎◌, List, [], ◌∷◌, ◌++◌, length, None, sym, refl, ap, ◌∙◌, subst, inl, inr, ⊎_elim, add-one, arith}
+use Rattle.std.proofs.Common.{◌≡◌, ℕ, zero, suc, ◌+◌, ◌-◌, ◌/◌, ◌^◌, ◌<◌, ◌≤◌, min, ◌⊎◌, List, [], length, sym, refl, ap, ◌∙◌, subst, inl, inr, ⊎_elim, add-one, arith}
 use Rattle.std.specs.List.{AllByRecursion}
 use Rattle.std.proofs.ByRecursion.{All-push, All-weaker}
 use Rattle.std.proofs.lemmas.List.{length_push}
@@ -8,8 +8,8 @@ use Rattle.index.specs.Map.{look, room}
 use Rattle.held.specs.declared.table.Record.{Record}
 use Rattle.held.specs.Makings.{below}
 use Rattle.held.specs.Records.{older_in, newer_in}
-use Rattle.held.specs.Rings.{Absent, Rings, Linked}
-use Rattle.held.specs.Whole.{places, held_at, WholeIn}
+use Rattle.held.specs.Rings.{Rings, Linked}
+use Rattle.held.specs.Whole.{WholeIn}
 use Rattle.held.proofs.Links.{rings_linked}
 use Rattle.held.proofs.Moves.{whole_made}
 

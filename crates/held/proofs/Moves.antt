@@ -1,5 +1,5 @@
 -- The held keys after a key is put or taken out.
-use Rattle.std.proofs.Common.{◌≡◌, ℕ, zero, suc, ◌+◌, ◌-◌, ◌^◌, ◌<◌, ◌≤◌, Bool, true, false, cond, not, ◌⊎◌, List, [], ◌∷◌, ◌++◌, map, length, Some, None, Option, sym, refl, ap, ◌∙◌, subst, ⊎_elim, arith}
+use Rattle.std.proofs.Common.{◌≡◌, ℕ, zero, suc, ◌+◌, ◌-◌, ◌^◌, ◌<◌, ◌≤◌, List, [], ◌∷◌, ◌++◌, length, Some, None, sym, refl, ap, ◌∙◌, subst, ⊎_elim, arith}
 use Rattle.std.specs.List.{AllByRecursion}
 use Rattle.std.proofs.ByRecursion.{All-push}
 use Rattle.std.proofs.lemmas.List.{length-append, length_push, map_push}
@@ -9,9 +9,9 @@ use Rattle.index.proofs.Views.{Rises, look_put_same, look_put_other, look_withou
 use Rattle.held.specs.declared.table.Record.{Record}
 use Rattle.held.specs.Holdings.{Holding, keys, taken, place_of, without_key}
 use Rattle.held.specs.Records.{key_in, older_in, newer_in}
-use Rattle.held.specs.Rings.{Links, walk, Absent, Apart, Rings, Unlinked, Linked}
+use Rattle.held.specs.Rings.{walk, Absent, Apart, Rings, Unlinked, Linked}
 use Rattle.held.specs.Whole.{places, spare, held_at, WholeIn}
-use Rattle.held.proofs.Links.{walk_links, turned, rings_moved, rings_unlinked, place_within, end_within, apart_push, apart_but, apart_here, all_but, all_here}
+use Rattle.held.proofs.Links.{walk_links, turned, rings_moved, rings_unlinked, place_within, end_within, apart_push, apart_but, apart_here, all_but}
 use Rattle.held.proofs.Places.{hold, some_none, absent_from_none, place_push_same, place_push_other, place_without_same, place_without_other, held_append, taken_held, keys_held, keys_held_append, held_split, without_held, held_same, held_other}
 
 pub length_walk : (n : ℕ → ℕ) (a c : ℕ) → length (walk n a c) ≡ c

@@ -1,14 +1,11 @@
 -- The places of keys, in lists of holdings.
-use Rattle.std.proofs.Common.{◌≡◌, ℕ, suc, ◌+◌, ◌<◌, ◌≤◌, Bool, true, false, cond, not, eqb, ◌⊎◌, List, [], ◌∷◌, ◌++◌, map, length, is_some, Some, None, filter, Option, sym, refl, ap, ◌∙◌, subst, ⊎_elim, arith}
-use Rattle.std.specs.List.{AllByRecursion}
-use Rattle.std.proofs.lemmas.List.Elements.{filter-append}
-use Rattle.std.proofs.ByRecursion.{All-append, All-push}
-use Rattle.std.proofs.lemmas.List.{length-append, length-map, map-append, append-nil}
+use Rattle.std.proofs.Common.{◌≡◌, ℕ, true, false, cond, not, eqb, List, [], ◌∷◌, ◌++◌, is_some, Some, None, Option, sym, refl, ap, ◌∙◌, ⊎_elim, arith}
+use Rattle.std.proofs.lemmas.List.{map-append}
 use Rattle.std.proofs.lemmas.Bool.{cases_eq, eq-eqb, ne_eqb, cond-true, cond-false, not_from_true, not_from_false, both_ways}
 use Rattle.held.specs.declared.table.Record.{Record}
 use Rattle.held.specs.Holdings.{Holding, keys, taken, place_of, without_key}
 use Rattle.held.specs.Records.{key_in}
-use Rattle.held.specs.Rings.{Absent, Apart}
+use Rattle.held.specs.Rings.{Absent}
 use Rattle.held.specs.Whole.{held_at}
 
 pub some_none : {x : ℕ} → Some x ≡ None → ⊥

@@ -1,13 +1,13 @@
 -- That the held keys are whole holds in at most one way, so that a ghost field may say it.
-use Rattle.std.proofs.Common.{◌≡◌, ℕ, suc, ◌+◌, ◌^◌, ◌<◌, ◌≤◌, List, [], ◌∷◌, length, Some, None, Option, sym, refl, ap, suc-ne-zero}
+use Rattle.std.proofs.Common.{◌≡◌, ℕ, ◌+◌, ◌^◌, ◌<◌, ◌≤◌, List, [], ◌∷◌, length, Some, None, Option, sym, refl, ap, suc-ne-zero}
 use mathlib.Core.Logic.{∥∥₁_elim}
-use base.Stored.{Coded, coded_via, coded_list, coded_ℕ, Coded-set}
+use base.Stored.{coded_via, coded_list, coded_ℕ, Coded-set}
 use denote.Struct.Props.{props}
 use Rattle.std.specs.List.{AllByRecursion}
 use Rattle.index.specs.Map.{look, room}
 use Rattle.held.specs.declared.table.Record.{Record}
-use Rattle.held.specs.Holdings.{Holding, keys, place_of}
-use Rattle.held.specs.Records.{key_in, older_in, newer_in}
+use Rattle.held.specs.Holdings.{keys, place_of}
+use Rattle.held.specs.Records.{older_in, newer_in}
 use Rattle.held.specs.Rings.{Links, Absent, Apart, Rings}
 use Rattle.held.specs.Whole.{places, spare, held_at, WholeIn}
 

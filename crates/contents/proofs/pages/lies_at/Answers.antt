@@ -1,4 +1,4 @@
-use Rattle.std.proofs.Common.{◌≡◌, ℕ, List, Decides, refl, subst}
+use Rattle.std.proofs.Common.{◌+◌, ◌-◌, take, drop, refl}
 use Rattle.std.proofs.lemmas.Slice.Eq.{slice_eq-Decides}
 use Rattle.page.proofs.Areas.{page_read}
 use Rattle.page.specs.Memory.{start_of}
@@ -7,5 +7,8 @@ use Rattle.std.proofs.lemmas.Bool.Decides.{Decides-eqb}
 
 pub returns : goal.returns
 returns c =
-    let part = page_read c.args.area.now c.args.place (start_of c.args.place) refl in
-    subst (λ (bytes : List ℕ). Decides c.eq.result (bytes ≡ c.args.page.now)) part (slice_eq-Decides Decides-eqb _ _ _ c.eq.ensures)
+    let area = c.args.area.now in
+    let start = start_of c.args.place in
+    let part = page_read area c.args.place start refl in
+    let d = slice_eq-Decides Decides-eqb (take (start + 256 - start) (drop start area)) c.args.page.now c.eq.result c.eq.ensures in
+    rw part at d

@@ -1,4 +1,4 @@
-use Rattle.std.proofs.Common.{◌≡◌, ◌+◌, ◌<◌, length, vec_items, ◌∙◌, arith}
+use Rattle.std.proofs.Common.{◌+◌, vec_items, ◌∙◌, arith}
 use Rattle.held.specs.Records.{older_in, newer_in}
 use Rattle.held.proofs.Fresh.{rings_more}
 use Rattle.held.proofs.Links.{end_within}

@@ -1,4 +1,4 @@
-use Rattle.std.proofs.Common.{◌≡◌, ℕ, get_or, sym, ◌∙◌, subst, arith}
+use Rattle.std.proofs.Common.{ℕ, get_or, ◌∙◌, arith}
 use Rattle.held.proofs.Counts.{fullest_takes, fullest_keeps}
 use Rattle.held.proofs.victims.fullest_even.Goals as goal
 use Rattle.held.proofs.victims.fullest_even.Goals.{then-sizes-best, else-sizes-best}

@@ -37,8 +37,8 @@ returns-in_default c =
       fixed = fixed_same (size_of b.held) (length users) _ _ area _ e.size refl refl;
     }
 
-pub invariant-of-self-in_default-acquire : goal.invariant-of-self-in_default-acquire
-invariant-of-self-in_default-acquire c =
+pub invariant_of-self-in_default-acquire : goal.invariant_of-self-in_default-acquire
+invariant_of-self-in_default-acquire c =
     let b = c.args.self.now in
     let noted = vec_items b.content_at in
     let k = c.args.key.number in
@@ -77,8 +77,8 @@ returns-in_default-acquire c =
           fixed_same (size_of b.held) (length users) _ _ area _ (c.remove.ensures.size ∙ e.size) (ap length a.0) (ap (drop (start_of (length users))) a.1);
     }
 
-pub invariant-of-self-2 : goal.invariant-of-self-2
-invariant-of-self-2 c =
+pub invariant_of-self-2 : goal.invariant_of-self-2
+invariant_of-self-2 c =
     let b = c.args.self.now in
     let noted = vec_items b.content_at in
     let e = c.in-Some.ensures in

@@ -20,8 +20,8 @@ index-requires c =
     let below = place_below b.held c.args.key.number c.in-Some.place (sym c.in-Some.ensures.value) in
     omega (arith, below, b.long, b.content_at.ok.0)
 
-pub invariant-of-self : goal.invariant-of-self
-invariant-of-self c =
+pub invariant_of-self : goal.invariant_of-self
+invariant_of-self c =
     let b = c.args.self.now in
     let noted = vec_items b.content_at in
     let users = users_of b.contents in
@@ -36,8 +36,8 @@ invariant-of-self c =
       (b.long ∙ sym e.size, tt),
     )
 
-pub invariant-of-self-in_default : goal.invariant-of-self-in_default
-invariant-of-self-in_default c =
+pub invariant_of-self-in_default : goal.invariant_of-self-in_default
+invariant_of-self-in_default c =
     let b = c.args.self.now in
     let noted = vec_items b.content_at in
     let e = c.in_default.ensures in

@@ -16,8 +16,8 @@ use Rattle.dedup.specs.Kept.{read_there}
 use Rattle.dedup.specs.SharesLemmas.{without_none}
 use Rattle.dedup.proofs.calls.SharedPagesHeldPages.take.Goals as goal
 
-pub invariant-of-self : goal.invariant-of-self
-invariant-of-self c =
+pub invariant_of-self : goal.invariant_of-self
+invariant_of-self c =
     let b = c.args.self.now in
     let noted = vec_items b.content_at in
     let e = c.in_default.ensures in
@@ -48,8 +48,8 @@ index-content-requires c =
     let below = place_below b.held c.args.key.number c.in-Some.place (sym c.in-Some.ensures.value) in
     omega (arith, below, b.long, b.content_at.ok.0)
 
-pub invariant-of-self-2 : goal.invariant-of-self-2
-invariant-of-self-2 c =
+pub invariant_of-self-2 : goal.invariant_of-self-2
+invariant_of-self-2 c =
     let b = c.args.self.now in
     let noted = vec_items b.content_at in
     let users = users_of b.contents in

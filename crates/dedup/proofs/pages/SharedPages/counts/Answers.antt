@@ -10,13 +10,13 @@ use Rattle.held.proofs.Facts.{count_fits, size_small}
 use Rattle.dedup.specs.Kept.{in_use_different, exact_is}
 use Rattle.dedup.proofs.pages.SharedPages.counts.Goals as goal
 
-pub overflow-cast-held : goal.overflow-cast-held
-overflow-cast-held c =
+pub overflow_cast-held : goal.overflow_cast-held
+overflow_cast-held c =
     let b = c.args.self.now in
     omega (arith, c.count.ensures, count_fits b.held, size_small b.held)
 
-pub overflow-cast-different : goal.overflow-cast-different
-overflow-cast-different c =
+pub overflow_cast-different : goal.overflow_cast-different
+overflow_cast-different c =
     let b = c.args.self.now in
     omega (arith, c.in_use.ensures, in_use_le (users_of b.contents), size_limit b.contents)
 

@@ -9,8 +9,8 @@ use Rattle.dedup.specs.Shares.{contents_by, uses}
 use Rattle.dedup.specs.Kept.{get_or_zeros}
 use Rattle.dedup.proofs.pages.SharedPages.new.Goals as goal
 
-pub invariant-of-result : goal.invariant-of-result
-invariant-of-result c =
+pub invariant_of-result : goal.invariant_of-result
+invariant_of-result c =
     let h = c.in_ok-held.ensures in
     let v = c.in_ok-content_at.content_at.ok.0 in
     let made = c.in_ok-content_at.ensures in

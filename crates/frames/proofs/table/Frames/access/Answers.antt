@@ -28,17 +28,17 @@ was_none : (b : Bool) (t : ℕ) → ◌≡◌ {A = Option ℕ} None (cond b None
 was_none true t e = refl
 was_none false t e = absurd (let z : ◌≡◌ {A = ℕ} 0 1 = cc in omega arith)
 
-pub returns-in-err-frame : goal.returns-in-err-frame
-returns-in-err-frame c =
+pub returns-in_err-frame : goal.returns-in_err-frame
+returns-in_err-frame c =
     let fs = c.args.self.now in
     let page = c.args.page in
-    let none : find page (clock fs).pages ≡ None = sym c.find.ensures ∙ c.in-default.is in
-    let no_frames : length (clock fs).pages ≡ 0 = eqb-true _ 0 (was_none (eqb (length (clock fs).pages) 0) (taken (clock fs)) c.in-err-frame.ensures.answer) in
+    let none : find page (clock fs).pages ≡ None = sym c.find.ensures ∙ c.in_default.is in
+    let no_frames : length (clock fs).pages ≡ 0 = eqb-true _ 0 (was_none (eqb (length (clock fs).pages) 0) (taken (clock fs)) c.in_err-frame.ensures.answer) in
     record {
-      evicted = c.from-residual.ensures ∙ sym (get_or_past (clock fs).pages (taken (clock fs)) None (omega arith))
+      evicted = c.from_residual.ensures ∙ sym (get_or_past (clock fs).pages (taken (clock fs)) None (omega arith))
           ∙ ap (λ (o : Option ℕ). given {B = Option Page} o (λ i. None) (get_or (clock fs).pages (taken (clock fs)) None)) (sym none);
-      clock = c.take-frame.ensures.clock ∙ sym (none_refilled (clock fs) (Some page) no_frames (sym (as_many_marks fs) ∙ no_frames))
+      clock = c.take_frame.ensures.clock ∙ sym (none_refilled (clock fs) (Some page) no_frames (sym (as_many_marks fs) ∙ no_frames))
           ∙ ap (λ (o : Option ℕ). given o (hit (clock fs)) (refilled (clock fs) (Some page))) (sym none);
-      dirty = c.take-frame.ensures.dirty ∙ sym (set_past (dirties fs) (taken (clock fs)) (is_write c.args.kind) (omega (arith, as_many_dirties fs)))
+      dirty = c.take_frame.ensures.dirty ∙ sym (set_past (dirties fs) (taken (clock fs)) (is_write c.args.kind) (omega (arith, as_many_dirties fs)))
           ∙ ap (λ (o : Option ℕ). given o (λ j. hit_dirty (dirties fs) j c.args.kind) (set (dirties fs) (taken (clock fs)) (is_write c.args.kind))) (sym none);
     }

@@ -8,6 +8,6 @@ pub returns : goal.returns
 returns c =
     let before = c.args.self.now in
     record {
-      clock = c.empty-set.ensures.clock ∙ emptied_all (clock before) (as_many_marks before);
-      dirty = c.empty-set.ensures.dirty ∙ all_lowered (clock before).pages (dirties before) (as_many_dirties before);
+      clock = c.empty_set.ensures.clock ∙ emptied_all (clock before) (as_many_marks before);
+      dirty = c.empty_set.ensures.dirty ∙ all_lowered (clock before).pages (dirties before) (as_many_dirties before);
     }

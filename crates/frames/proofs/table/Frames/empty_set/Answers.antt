@@ -11,15 +11,15 @@ use Rattle.frames.proofs.table.Frames.empty_set.Goals as goal
 long : (fs : Frames) (pages : PageSet) (ys : List Frame) → ys ≡ map (emptied_frame pages) (lent fs) → length ys ≡ fs.count
 long fs pages ys e = lent_long fs ys (ap length e ∙ length-map (lent fs) (emptied_frame pages))
 
-pub invariant-of-self : goal.invariant-of-self
-invariant-of-self c =
+pub invariant_of-self : goal.invariant_of-self
+invariant_of-self c =
     let fs = c.args.self.now in
-    (part_length fs c.empty-pages.new.frames (long fs c.args.pages _ c.empty-pages.ensures), (fs.few, (fs.within, tt)))
+    record { full = part_length fs c.empty_pages.new.frames (long fs c.args.pages _ c.empty_pages.ensures); few = fs.few; within = fs.within }
 
 pub returns : goal.returns
 returns c =
     let fs = c.args.self.now in
     let pages = c.args.pages in
-    let ys = c.empty-pages.new.frames in
-    let e = take_at ys _ fs.count (long fs pages ys c.empty-pages.ensures) ∙ c.empty-pages.ensures ∙ ap (map (emptied_frame pages)) (lent_is fs) in
+    let ys = c.empty_pages.new.frames in
+    let e = take_at ys _ fs.count (long fs pages ys c.empty_pages.ensures) ∙ c.empty_pages.ensures ∙ ap (map (emptied_frame pages)) (lent_is fs) in
     record { clock = clock_emptied fs _ pages e refl; dirty = dirties_emptied fs _ pages e }

@@ -8,4 +8,4 @@ use Rattle.frames.proofs.table.Frames.find.Goals as goal
 pub returns : goal.returns
 unfolding clock
 returns c =
-    c.find-page.ensures ∙ ap (λ (fs : List Frame). find c.args.page (pages_in fs)) (from_start c.args.self.now.table c.args.self.now.count)
+    c.find_page.ensures ∙ ap (λ (fs : List Frame). find c.args.page (pages_in fs)) (from_start c.args.self.now.table c.args.self.now.count)

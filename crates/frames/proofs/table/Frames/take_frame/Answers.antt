@@ -18,26 +18,28 @@ returns-then-count-eq0 c =
       turn = tt;
     }
 
-pub invariant-of-self : goal.invariant-of-self
-invariant-of-self c =
+pub invariant_of-self : goal.invariant_of-self
+invariant_of-self c =
     let fs = c.args.self.now in
-    let r = c.sweep-from-frame.result in
-    let w : r < fs.count = omega (arith, c.sweep-from-frame.ensures.within, ap length (lent_is fs), count_of fs) in (
-      part_length fs c.sweep-from-frame.new.frames (swept_long fs _ c.sweep-from-frame.ensures.pages),
-      (fs.few, (omega (arith, c.next-place-self.ensures, next_within fs.count r w), tt)),
-    )
+    let r = c.sweep_from-frame.result in
+    let w : r < fs.count = omega (arith, c.sweep_from-frame.ensures.within, ap length (lent_is fs), count_of fs) in
+    record {
+      full = part_length fs c.sweep_from-frame.new.frames (swept_long fs _ c.sweep_from-frame.ensures.pages);
+      few = fs.few;
+      within = omega (arith, c.next_place-self.ensures, next_within fs.count r w);
+    }
 
 pub returns : goal.returns
 returns c =
     let fs = c.args.self.now in
-    let s = c.sweep-from-frame.ensures in
-    let ys = c.sweep-from-frame.new.frames in
+    let s = c.sweep_from-frame.ensures in
+    let ys = c.sweep_from-frame.new.frames in
     let e = take_at ys _ fs.count (swept_long fs ys s.pages) in
     let at = at_taken fs _ s.taken in
-    let turned = clock_turned fs _ ys e c.sweep-from-frame.result s.taken s.marks s.pages c.next-place-self.ensures in
+    let turned = clock_turned fs _ ys e c.sweep_from-frame.result s.taken s.marks s.pages c.next_place-self.ensures in
     record {
       answer = ap Some at ∙ sym (cond-false _ None (Some (taken (clock fs))) (ne_eqb (length (clock fs).pages) 0 (λ z. c.if-count-eq0.false (sym (frame_count fs) ∙ z))));
       clock = turned;
       dirty = dirties_turned fs _ ys e s.dirty;
-      turn = frames_turn fs _ c.sweep-from-frame.result c.if-count-eq0.false at turned;
+      turn = frames_turn fs _ c.sweep_from-frame.result c.if-count-eq0.false at turned;
     }

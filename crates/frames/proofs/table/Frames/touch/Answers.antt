@@ -2,12 +2,12 @@ use Rattle.std.proofs.Common.{◌≡◌, true, false, ◌||◌, get_or, set, Non
 use Rattle.std.proofs.lemmas.Bool.{cond-true}
 use Rattle.frames.specs.Clock.{filled, hit}
 use Rattle.frames.specs.Held.{blank, clock, dirties, frames_of, hit_dirty, is_write}
-use Rattle.frames.specs.States.{after_event, dirty, event_of, held}
+use Rattle.frames.specs.States.{after_event, event_of, held}
 use Rattle.frames.proofs.Views.{clock_set, dirties_set, dirty_accessed, dirty_seen, held_accessed, marked_accessed, page_seen, pages_same, some_filled}
 use Rattle.frames.proofs.table.Frames.touch.Goals as goal
 
-pub returns-then-is-some : goal.returns-then-is-some
-returns-then-is-some c =
+pub returns-then-is_some : goal.returns-then-is_some
+returns-then-is_some c =
     let before = c.args.self.now in
     let after = c.apply.new.self in
     let i = c.args.frame in
@@ -15,7 +15,7 @@ returns-then-is-some c =
     let old = get_or (frames_of before) i blank in
     let f = after_event old (event_of kind) in
     let is_filled : filled (get_or (clock before).pages i None) ≡ true
-    = ap filled (sym c.page-in.ensures) ∙ sym (some_filled c.page-in.result) ∙ sym c.is-some.ensures ∙ c.if-is-some.true in
+    = ap filled (sym c.page_in.ensures) ∙ sym (some_filled c.page_in.result) ∙ sym c.is_some.ensures ∙ c.if-is_some.true in
     let e = c.apply.ensures.frames ∙ ap (λ x. set (frames_of before) i (after_event old x)) c.event.ensures in
     record {
       clock = clock_set before after i f e c.apply.ensures.hand (held old) true

@@ -1,4 +1,4 @@
-use Rattle.std.proofs.Common.{◌≡◌, ℕ, ◌+◌, ◌<◌, ◌≤◌, Some, None, sym, ap, ◌∙◌, subst, arith}
+use Rattle.std.proofs.Common.{◌≡◌, ◌+◌, Some, None, sym, ap, ◌∙◌, subst, arith}
 use Rattle.held.specs.Holdings.{keys, FirstHeld}
 use Rattle.held.specs.Pools.{between}
 use Rattle.held.specs.View.{holdings}
@@ -21,7 +21,7 @@ returns-then-number-end c =
     let H = holdings h in
     let key = c.in_ok-key.key in
     let f = subst (λ k. FirstHeld k H (Some key)) c.from_number.ensures.value c.in_ok-key.ensures in
-    let is : key.number ≡ c.from_number-2.result = sym (c.from_number-2.ensures ∙ c.number.ensures) in
+    let is : key.number ≡ c.from-number.result = sym (c.from-number.ensures ∙ c.number.ensures) in
     let low = f.0 in (
       omega arith,
       c.if-number-end.true,

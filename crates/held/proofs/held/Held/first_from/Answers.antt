@@ -1,4 +1,4 @@
-use Rattle.std.proofs.Common.{◌≡◌, ℕ, ◌<◌, ◌≤◌, is_some, Some, None, sym, ap, ◌∙◌, subst, arith}
+use Rattle.std.proofs.Common.{is_some, None, sym, ap, ◌∙◌, subst, arith}
 use Rattle.index.specs.Map.{look}
 use Rattle.index.specs.View.{view}
 use Rattle.held.specs.Holdings.{FirstHeld}

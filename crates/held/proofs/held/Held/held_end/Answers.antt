@@ -2,5 +2,5 @@ use Rattle.std.proofs.Common.{arith}
 use Rattle.held.proofs.Facts.{size_small}
 use Rattle.held.proofs.held.Held.held_end.Goals as goal
 
-pub overflow-cast-result : goal.overflow-cast-result
-overflow-cast-result c = omega (arith, size_small c.args.self.now)
+pub overflow_cast-result : goal.overflow_cast-result
+overflow_cast-result c = omega (arith, size_small c.args.self.now)

@@ -1,12 +1,12 @@
-use Rattle.std.proofs.Common.{◌≡◌, ◌+◌, ◌≤◌, min, length, vec_items, sym, refl, ap, ◌∙◌, arith}
+use Rattle.std.proofs.Common.{◌≡◌, ◌+◌, ◌≤◌, min, length, vec_items, refl, ap, ◌∙◌, arith}
 use Rattle.index.specs.Map.{room}
 use Rattle.index.specs.View.{view, nodes, slots}
 use Rattle.held.specs.View.{holdings}
 use Rattle.held.proofs.Fresh.{whole_new, size_cut}
 use Rattle.held.proofs.held.Held.new.Goals as goal
 
-pub invariant-of-result : goal.invariant-of-result
-invariant-of-result c =
+pub invariant_of-result : goal.invariant_of-result
+invariant_of-result c =
     let x = c.new-index.result in
     let t = vec_items c.free_all.new.table in
     let v = c.in_ok-table.table.ok.0 in
@@ -17,7 +17,7 @@ invariant-of-result c =
     let is : size ≡ min c.min.result c.room.result = c.min-size.ensures in
     let small : size ≤ 4096 = omega (arith, c.min.ensures) in
     let roomy : size ≤ room (slots x) (nodes x) = omega (arith, c.room.ensures) in
-    (∣ whole_new size t (view x) (slots x) (nodes x) c.free_all.ensures.rings small long roomy c.new-index.ensures.none ∣₁, tt)
+    record { whole = ∣ whole_new size t (view x) (slots x) (nodes x) c.free_all.ensures.rings small long roomy c.new-index.ensures.none ∣₁ }
 
 pub returns : goal.returns
 unfolding holdings

@@ -1,4 +1,4 @@
-use Rattle.std.proofs.Common.{◌≡◌, ℕ, ◌+◌, ◌*◌, ◌%◌, ◌^◌, sym, ap, ◌∙◌, arith}
+use Rattle.std.proofs.Common.{◌≡◌, ◌+◌, ◌*◌, ◌%◌, ◌^◌, sym, ap, ◌∙◌, arith}
 use Rattle.held.specs.Holdings.{keys}
 use Rattle.held.specs.Pools.{between}
 use Rattle.held.specs.View.{holdings}
@@ -9,8 +9,8 @@ use Rattle.held.proofs.held.Held.pool_count.Goals as goal
 pub returns-then-pool-gt15 : goal.returns-then-pool-gt15
 returns-then-pool-gt15 c = let h = c.args.self.now in sym (pool_none (keys (holdings h)) c.args.pool (keys_small h) c.if-pool-gt15.true)
 
-pub overflow-add-count : goal.overflow-add-count
-overflow-add-count c =
+pub overflow_add-count : goal.overflow_add-count
+overflow_add-count c =
     let h = c.args.self.now in
     let step = c.in-Some.ensures.2 in
     let i = c.loop-key.invariant.1 in

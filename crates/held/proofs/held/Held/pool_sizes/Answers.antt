@@ -22,8 +22,8 @@ key_at-requires c =
     let v = h.table.ok.0 in
     omega (arith, (whole h).long, counting_place (vec_items h.table) h.size c.loop-left.place c.loop-left.left (keys (holdings h)) c.loop-left.sizes c.loop-left.invariant (omega arith))
 
-pub overflow-add-sizes : goal.overflow-add-sizes
-overflow-add-sizes c =
+pub overflow_add-sizes : goal.overflow_add-sizes
+overflow_add-sizes c =
     let h = c.args.self.now in
     let ks = keys (holdings h) in
     let pool = c.pool-pool.ensures ∙ ap pool_of (c.from_number.ensures.value ∙ c.key_at.ensures) in

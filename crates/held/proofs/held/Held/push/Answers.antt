@@ -1,6 +1,6 @@
-use Rattle.std.proofs.Common.{◌≡◌, ℕ, ◌+◌, ◌^◌, ◌<◌, true, false, [], ◌∷◌, ◌++◌, length, is_some, is_ok, None, vec_items, sym, refl, ap, ◌∙◌, subst, inr, arith}
+use Rattle.std.proofs.Common.{◌≡◌, ◌+◌, ◌^◌, ◌<◌, true, false, [], ◌∷◌, ◌++◌, length, is_some, is_ok, vec_items, sym, refl, ap, ◌∙◌, subst, inr, arith}
 use Rattle.std.proofs.lemmas.Bool.{cond-true}
-use Rattle.index.specs.Map.{put, room}
+use Rattle.index.specs.Map.{put}
 use Rattle.index.specs.View.{view, nodes, slots}
 use Rattle.held.specs.Holdings.{place_of}
 use Rattle.held.specs.Records.{older_in, newer_in}
@@ -58,8 +58,8 @@ set_key-requires c =
     let long : length (vec_items c.link_before.new.table) ≡ h.size + 2 = c.link_before.ensures.len ∙ (c.unlink.ensures.len ∙ w.long) in
     omega arith
 
-pub overflow-add-self : goal.overflow-add-self
-overflow-add-self c = let h = c.args.self.now in omega (arith, (whole h).fits, (whole h).small)
+pub overflow_add-self : goal.overflow_add-self
+overflow_add-self c = let h = c.args.self.now in omega (arith, (whole h).fits, (whole h).small)
 
 -- the holdings and what always holds, after all writes
 after : (c : After-set_key) →
@@ -78,7 +78,7 @@ after c =
     let some : h.count < h.size = omega (arith, w.fits) in
     let first = c.newer_than-place.ensures ∙ ap (newer_in t) c.free_end.ensures in
     let absent : is_some (place_of c.args.key.number (holdings h)) ≡ false = ap is_some (sym c.find.ensures) ∙ (sym c.is_some.ensures ∙ c.if-is_some.false) in
-    let low : c.args.key.number < 2 ^ 32 = let e = c.number.ensures in let f = c.number.type-inv in omega arith in
+    let low : c.args.key.number < 2 ^ 32 = omega (arith, c.number.ensures) in
     let u = c.unlink.ensures in
     let l = c.link_before.ensures in
     let s = c.set_key.ensures in
@@ -86,8 +86,8 @@ after c =
     u.links u.keys (subst (λ x. Linked (newer_in t₁) (older_in t₁) x p (newer_in t₂) (older_in t₂)) c.held_end-end.ensures l.links) l.keys
     (s.here ∙ c.number-2.ensures) s.rest s.newer s.older (s.len ∙ (l.len ∙ u.len))
 
-pub invariant-of-self : goal.invariant-of-self
-invariant-of-self c =
+pub invariant_of-self : goal.invariant_of-self
+invariant_of-self c =
     let h = c.args.self.now in
     let w = whole h in
     let x = c.file.new.self in
@@ -98,7 +98,7 @@ invariant-of-self c =
     let granted : is_ok c.file.result ≡ true = z.room (omega (arith, w.fits)) in
     let filed : view x ≡ put c.args.key.number p (view h.index)
     = z.after ∙ (cond-true (is_ok c.file.result) (put c.number.result p (view h.index)) (view h.index) granted ∙ ap (λ k. put k p (view h.index)) c.number.ensures) in
-    (∣ whole_like h.size (h.count + 1) (vec_items c.set_key.new.table) (put c.args.key.number p (view h.index)) (view x) (slots h.index) (slots x) (nodes h.index) (nodes x) filed z.slots z.nodes (after c).1 ∣₁, tt)
+    record { whole = ∣ whole_like h.size (h.count + 1) (vec_items c.set_key.new.table) (put c.args.key.number p (view h.index)) (view x) (slots h.index) (slots x) (nodes h.index) (nodes x) filed z.slots z.nodes (after c).1 ∣₁ }
 
 pub returns : goal.returns
 unfolding holdings

@@ -1,5 +1,4 @@
-use Rattle.std.proofs.Common.{◌≡◌, ℕ, ◌+◌, ◌-◌, ◌<◌, length, Some, None, vec_items, sym, refl, ap, ◌∙◌, subst, arith}
-use Rattle.index.specs.Filing.{nodes_of}
+use Rattle.std.proofs.Common.{◌≡◌, ◌+◌, ◌-◌, length, None, vec_items, sym, refl, ap, ◌∙◌, subst, arith}
 use Rattle.index.specs.Map.{look, without}
 use Rattle.index.specs.Slots.{marks}
 use Rattle.index.specs.Sound.{heads_of, records_of}
@@ -16,13 +15,13 @@ use Rattle.held.proofs.Places.{absent_from_none, without_absent}
 use Rattle.held.proofs.held.Held.remove.Goals as goal
 use Rattle.held.proofs.held.Held.remove.Goals.{After-link_before}
 
-pub invariant-of-self : goal.invariant-of-self
-invariant-of-self c =
+pub invariant_of-self : goal.invariant_of-self
+invariant_of-self c =
     let h = c.args.self.now in
     let z = c.in_err-freed.ensures in
     let x = c.remove.new.self in
     let none : look c.number.result (view h.index) ≡ None = sym z.value in
-    (∣ whole_like h.size h.count (vec_items h.table) (view h.index) (view x) (slots h.index) (slots x) (nodes h.index) (nodes x) (z.after ∙ without_none c.number.result (view h.index) none) z.slots z.nodes (whole h) ∣₁, tt)
+    record { whole = ∣ whole_like h.size h.count (vec_items h.table) (view h.index) (view x) (slots h.index) (slots x) (nodes h.index) (nodes x) (z.after ∙ without_none c.number.result (view h.index) none) z.slots z.nodes (whole h) ∣₁ }
 
 pub returns-in_err-freed : goal.returns-in_err-freed
 unfolding holdings
@@ -54,8 +53,8 @@ link_before-requires c =
     let end = c.free_end-end.ensures in
     record { place_within = omega arith; end_within = omega arith; older_within = omega (arith, ap (older_in t₁) end) }
 
-pub overflow-sub-self : goal.overflow-sub-self
-overflow-sub-self c =
+pub overflow_sub-self : goal.overflow_sub-self
+overflow_sub-self c =
     let h = c.args.self.now in
     some_held h.size h.count (vec_items h.table) (view h.index) (slots h.index) (nodes h.index) (whole h) c.number.result c.in_ok-freed.freed (sym c.in_ok-freed.ensures.value)
 
@@ -76,12 +75,12 @@ after c =
     removed h.size h.count (vec_items h.table) (view h.index) (slots h.index) (nodes h.index) (whole h) c.number.result p t₁ t₂ (rises_sorted (pairs (marks (heads_of t)) (records_of t))) (sym c.in_ok-freed.ensures.value)
     u.links u.keys (subst (λ x. Linked (newer_in t₁) (older_in t₁) x p (newer_in t₂) (older_in t₂)) c.free_end-end.ensures l.links) l.keys (l.len ∙ u.len)
 
-pub invariant-of-self-2 : goal.invariant-of-self-2
-invariant-of-self-2 c =
+pub invariant_of-self-2 : goal.invariant_of-self-2
+invariant_of-self-2 c =
     let h = c.args.self.now in
     let x = c.remove.new.self in
     let z = c.in_ok-freed.ensures in
-    (∣ whole_like h.size (h.count - 1) (vec_items c.link_before.new.table) (without c.number.result (view h.index)) (view x) (slots h.index) (slots x) (nodes h.index) (nodes x) z.after z.slots z.nodes (after c).1 ∣₁, tt)
+    record { whole = ∣ whole_like h.size (h.count - 1) (vec_items c.link_before.new.table) (without c.number.result (view h.index)) (view x) (slots h.index) (slots x) (nodes h.index) (nodes x) z.after z.slots z.nodes (after c).1 ∣₁ }
 
 pub returns : goal.returns
 unfolding holdings

@@ -1,4 +1,4 @@
-use Rattle.std.proofs.Common.{◌≡◌, ℕ, get_or, sym, ap, ◌∙◌, arith}
+use Rattle.std.proofs.Common.{◌≡◌, get_or, sym, ap, ◌∙◌, arith}
 use Rattle.backend.specs.Victims.{pool_size, oldest_of, fullest}
 use Rattle.held.specs.Holdings.{keys}
 use Rattle.held.specs.View.{holdings}
