@@ -8,6 +8,7 @@ use script::{Level, Line, SCRIPT_BYTES, Script, read_line};
 use std::alloc::{AllocError, Global};
 use std::fmt;
 use std::io::{Read, Write};
+use std::process::ExitCode;
 
 // What a command asks for, in words.
 #[derive(Drop)]
@@ -135,12 +136,12 @@ fn run(rt: &HostRuntime) -> anyhow::Result<()> {
     Ok(())
 }
 
-fn main(rt: HostRuntime) -> anyhow::Result<()> {
+fn main(rt: HostRuntime) -> anyhow::Result<ExitCode> {
     match run(&rt) {
-        Ok(()) => Ok(()),
+        Ok(()) => Ok(ExitCode::SUCCESS),
         Err(error) => {
             eprintln!(rt; "explain: {error}")?;
-            Err(error)
+            Ok(ExitCode::FAILURE)
         }
     }
 }
