@@ -4,7 +4,7 @@ use Rattle.held.specs.Holdings.{Holding}
 
 -- the content of each held key, by its place
 abbrev pub contents_by : (ℕ → ℕ) → List Holding → List ℕ
-contents_by content-at H = map (λ x. content-at x.place) H
+contents_by content_at H = map (λ x. content_at x.place) H
 
 -- how many of them are the content i
 abbrev pub uses : ℕ → List ℕ → ℕ
