@@ -1,5 +1,5 @@
 //! An area of memory cut into pages of 256 bytes.
-ghost use Rattle.std.specs.Prelude.{◌≡◌, ◌+◌, ◌≤◌, true, ltb, [], ◌∷◌, length, is_ok, if◌then◌else◌, Ok, Err, nat_lt};
+ghost use Rattle.std.specs.Prelude.{◌≡◌, ◌+◌, ◌≤◌, true, [], ◌∷◌, length, is_ok, if◌then◌else◌, Ok, Err, nat_lt};
 ghost use Rattle.page.specs.Memory.{refusal_number, area_of, pages_in, start_of, page_at, OthersKept, overlaid, put_page, put_run, zero_page, outcome, whole_page, within_page};
 
 /// How many bytes a page has.
@@ -55,7 +55,7 @@ impl PageMemory {
 
     /// The byte that the page at `place` begins at. Only below `pages()` is the product known to fit.
     fn start_of(&self, place: usize) -> Result<usize, PageRefusal>
-        ensures { result ≡ (if ltb place (pages_in (area_of self.now)) then Ok (start_of place) else Err PageRefusal.NoSuchPage) }
+        ensures { result ≡ (if nat_lt place (pages_in (area_of self.now)) then Ok (start_of place) else Err PageRefusal.NoSuchPage) }
     {
         if place < self.pages() {
             Ok(place * PAGE_BYTES)

@@ -47,7 +47,7 @@ invariant_of-self-in_default-acquire c =
     let e = c.in-Some.ensures in
     let a = c.in_default-acquire.ensures.outcome in
     let back : holdings c.remove.new.self ≡ H = c.remove.ensures.after ∙ (ap (without_key k) e.cases.4 ∙ without_pushed k p H e.cases.0) in record {
-      counted = (λ i. ap (λ (us : List ℕ). get_or us i 0) a.0 ∙ (b.counted i ∙ ap (λ (R : List Holding). uses i (contents_by (λ q. get_or noted q 0) R)) (sym back)));
+      counted = λ i. ap (λ (us : List ℕ). get_or us i 0) a.0 ∙ (b.counted i ∙ ap (λ (R : List Holding). uses i (contents_by (λ q. get_or noted q 0) R)) (sym back));
       long = b.long ∙ sym (c.remove.ensures.size ∙ e.size);
     }
 
@@ -86,7 +86,7 @@ invariant_of-self-2 c =
     let counted =
     joined_counted (users_of b.contents) (contents_area b.contents) noted (holdings b.held) b.counted (pages_apart b.contents)
     c.args.key.number c.in-Some.place c.in-Some-acquire.content c.args.page.now _ _ e.cases.3 (omega (arith, e.cases.2, b.long)) a.outcome.1 in record {
-      counted = (λ i. counted i ∙ ap (λ (R : List Holding). uses i (contents_by (λ q. get_or (set noted c.in-Some.place c.in-Some-acquire.content) q 0) R)) (sym e.cases.4));
+      counted = λ i. counted i ∙ ap (λ (R : List Holding). uses i (contents_by (λ q. get_or (set noted c.in-Some.place c.in-Some-acquire.content) q 0) R)) (sym e.cases.4);
       long = length-set noted _ _ ∙ (b.long ∙ sym e.size);
     }
 

@@ -29,9 +29,9 @@ invariant_of-self c =
     let e = c.in-Some.ensures in
     let content = get_or_read_under noted p (length noted) c.index.result.now 0 c.index.ensures (omega (arith, place_below b.held k p (sym e.value), b.long)) refl in
     let less = left_counted users (contents_area b.contents) noted (holdings b.held) b.counted (pages_apart b.contents) k p (keys_apart b.held) (sym e.value) in record {
-      counted = (λ i.
+      counted = λ i.
           ap (λ (us : List ℕ). get_or us i 0) (c.release.ensures.users ∙ ap (λ (j : ℕ). set users j (get_or users j 0 - 1)) content)
-          ∙ (less i ∙ ap (λ (H : List Holding). uses i (contents_by (λ q. get_or noted q 0) H)) (sym e.after)));
+          ∙ (less i ∙ ap (λ (H : List Holding). uses i (contents_by (λ q. get_or noted q 0) H)) (sym e.after));
       long = b.long ∙ sym e.size;
     }
 
@@ -41,7 +41,7 @@ invariant_of-self-in_default c =
     let noted = vec_items b.content_at in
     let e = c.in_default.ensures in
     let same : holdings c.remove.new.self ≡ holdings b.held = e.after ∙ without_none c.args.key.number (holdings b.held) (sym e.value) in record {
-      counted = (λ i. b.counted i ∙ ap (λ (H : List Holding). uses i (contents_by (λ q. get_or noted q 0) H)) (sym same));
+      counted = λ i. b.counted i ∙ ap (λ (H : List Holding). uses i (contents_by (λ q. get_or noted q 0) H)) (sym same);
       long = b.long ∙ sym e.size;
     }
 

@@ -17,9 +17,9 @@ invariant_of-result c =
     let n = made.len in
     let noted = vec_items c.in_ok-content_at.content_at in
     let long : length noted ≡ size_of c.in_ok-held.held = omega (arith, c.size.ensures) in record {
-      counted = (λ i.
+      counted = λ i.
           ap (λ (us : List ℕ). get_or us i 0) c.new-contents.ensures.users
-          ∙ (get_or_zeros _ i ∙ ap (λ (H : List Holding). uses i (contents_by (λ q. get_or noted q 0) H)) (sym h.0)));
+          ∙ (get_or_zeros _ i ∙ ap (λ (H : List Holding). uses i (contents_by (λ q. get_or noted q 0) H)) (sym h.0));
       long = long;
     }
 
