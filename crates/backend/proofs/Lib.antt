@@ -1,3 +1,4 @@
+pub mod Accounts
 pub mod Entries
 pub mod Evictions
 pub mod Keeping

@@ -4,11 +4,14 @@ use Rattle.page.specs.Counts.{one_more}
 use Rattle.page.specs.Keys.{ephemeral}
 use Rattle.page.specs.declared.counts.Count.{Count}
 use Rattle.backend.specs.Rules.{Entry, Rules}
-use Rattle.backend.specs.States.{encode, decode}
+use Rattle.backend.specs.States.{View, encode, decode}
 use Rattle.layers.specs.declared.divider.Divider.{Divider}
 
+abbrev pub divider_view : {A B : Type 0} → (A → List ℕ) → (B → List ℕ) → Divider A B → View
+divider_view first second d = record { label = d.account.label; offers = d.account.offers; first = first d.first; second = second d.second }
+
 abbrev pub divider_state : {A B : Type 0} → (A → List ℕ) → (B → List ℕ) → Divider A B → List ℕ
-divider_state first second d = encode (record { label = d.label; offers = d.offers; first = first d.first; second = second d.second })
+divider_state first second d = encode (divider_view first second d)
 
 -- The first list of a divider's state is the state of the first backend, the second that of the second.
 abbrev pub even_side : List ℕ → List ℕ

@@ -4,12 +4,15 @@ use Rattle.page.specs.Counts.{one_more}
 use Rattle.page.specs.Keys.{pool_of}
 use Rattle.page.specs.declared.counts.Count.{Count}
 use Rattle.backend.specs.Rules.{Rules, held, pool_pages}
-use Rattle.backend.specs.States.{encode, decode}
+use Rattle.backend.specs.States.{View, encode, decode}
 use Rattle.backend.specs.declared.refusals.Cause.TheVariants.{OverLimit}
 use Rattle.layers.specs.declared.quota.Quota.{Quota}
 
+abbrev pub quota_view : {B : Type 0} → (B → List ℕ) → Quota B → View
+quota_view state q = record { label = q.account.label; offers = q.account.offers; first = q.limits; second = state q.below }
+
 abbrev pub quota_state : {B : Type 0} → (B → List ℕ) → Quota B → List ℕ
-quota_state state q = encode (record { label = q.label; offers = q.offers; first = q.limits; second = state q.below })
+quota_state state q = encode (quota_view state q)
 
 -- The first list of a quota's state has its limits, the second is the state below.
 abbrev pub limits : List ℕ → List ℕ

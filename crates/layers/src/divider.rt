@@ -9,14 +9,13 @@ ghost use Rattle.std.proofs.lemmas.Bool.{and_from};
 ghost use Rattle.backend.specs.States.{View};
 ghost use Rattle.backend.specs.Codec.{decode_encode};
 
-use backend::{Backend, Cause, Refusal};
-use page::{Count, Key, PAGE_BYTES};
+use backend::{Account, Backend, Refusal};
+use page::{Count, Key};
 
 /// Keeps the pages of even pools in one backend and those of odd pools in another.
 #[derive(Drop)]
 pub struct Divider<A, B> {
-    label: u32,
-    offers: Count,
+    account: Account,
     first: A,
     second: B,
 }
@@ -24,15 +23,14 @@ pub struct Divider<A, B> {
 impl<A: Backend, B: Backend> Divider<A, B> {
     /// A divider with this label over a backend for even pools and one for odd pools.
     pub fn new(label: u32, first: A, second: B) -> Divider<A, B>
-        ensures label { result.label ≡ label }
-        ensures offers { result.offers ≡ count_of 0 }
+        ensures label { result.account.label ≡ label }
+        ensures offers { result.account.offers ≡ count_of 0 }
         ensures first { result.first ≡ first }
         ensures second { result.second ≡ second }
         ensures new { New A.Backend.rules (A.Backend.state first) → New B.Backend.rules (B.Backend.state second) → New (divider_rules A.Backend.rules B.Backend.rules) (divider_state A.Backend.state B.Backend.state result) }
     {
         Divider {
-            label,
-            offers: Count::zero(),
+            account: Account::new(label),
             first,
             second,
         }
@@ -50,12 +48,7 @@ impl<A: Backend, B: Backend> Divider<A, B> {
         ensures first { result.0 ≡ self.first }
         ensures second { result.1 ≡ self.second }
     {
-        let Divider {
-            label: _,
-            offers: _,
-            first,
-            second,
-        } = self;
+        let Divider { first, second, .. } = self;
         (first, second)
     }
 }
@@ -72,14 +65,7 @@ impl<A: Backend, B: Backend> Backend for Divider<A, B> {
         (and_from _ _ (A.Backend.valid b.first) (B.Backend.valid b.second)) };
 
     fn put(&mut self, key: Key, page: &[u8]) -> Result<(), Refusal> {
-        if page.len() != PAGE_BYTES {
-            return Err(Refusal {
-                cause: Cause::NotAPage,
-                key,
-                label: self.label,
-            });
-        }
-        self.offers = self.offers.one_more();
+        self.account.offer(key, page)?;
         if key.is_ephemeral() {
             self.first.put(key, page)
         } else {
@@ -88,13 +74,7 @@ impl<A: Backend, B: Backend> Backend for Divider<A, B> {
     }
 
     fn get(&mut self, key: Key, out: &mut [u8]) -> Result<bool, Refusal> {
-        if out.len() != PAGE_BYTES {
-            return Err(Refusal {
-                cause: Cause::NotAPage,
-                key,
-                label: self.label,
-            });
-        }
+        self.account.check(key, out)?;
         if key.is_ephemeral() {
             self.first.get(key, out)
         } else {
@@ -143,6 +123,6 @@ impl<A: Backend, B: Backend> Backend for Divider<A, B> {
     }
 
     fn offers(&self) -> Count {
-        self.offers
+        self.account.offers()
     }
 }

@@ -9,14 +9,13 @@ ghost use Rattle.backend.specs.Rules.{Valid};
 ghost use Rattle.backend.specs.States.{View};
 ghost use Rattle.backend.specs.Codec.{decode_encode};
 
-use backend::{Backend, Cause, Refusal};
-use page::{Count, Key, PAGE_BYTES};
+use backend::{Account, Backend, Cause, Refusal};
+use page::{Count, Key};
 
 /// Refuses a page that its pool does not hold yet where the pool holds its limit or more.
 #[derive(Drop)]
 pub struct Quota<B> {
-    label: u32,
-    offers: Count,
+    account: Account,
     limits: [u32; 16],
     below: B,
 }
@@ -24,15 +23,14 @@ pub struct Quota<B> {
 impl<B: Backend> Quota<B> {
     /// A quota with this label and a limit for each pool, over a backend.
     pub fn new(label: u32, limits: [u32; 16], below: B) -> Quota<B>
-        ensures label { result.label ≡ label }
-        ensures offers { result.offers ≡ count_of 0 }
+        ensures label { result.account.label ≡ label }
+        ensures offers { result.account.offers ≡ count_of 0 }
         ensures limits { result.limits ≡ limits }
         ensures below { result.below ≡ below }
         ensures new { New B.Backend.rules (B.Backend.state below) → New (quota_rules B.Backend.rules) (quota_state B.Backend.state result) }
     {
         Quota {
-            label,
-            offers: Count::zero(),
+            account: Account::new(label),
             limits,
             below,
         }
@@ -42,12 +40,7 @@ impl<B: Backend> Quota<B> {
     pub fn into_below(self) -> B
         ensures { result ≡ self.below }
     {
-        let Quota {
-            label: _,
-            offers: _,
-            limits: _,
-            below,
-        } = self;
+        let Quota { below, .. } = self;
         below
     }
 
@@ -55,8 +48,7 @@ impl<B: Backend> Quota<B> {
     fn at_limit(&mut self, key: Key) -> bool
         ensures answer { result ≡ full B.Backend.rules self.old.limits (B.Backend.state self.old.below) key.number }
         ensures below { B.Backend.state self.new.below ≡ B.Backend.state self.old.below }
-        ensures label { self.new.label ≡ self.old.label }
-        ensures offers { self.new.offers ≡ self.old.offers }
+        ensures account { self.new.account ≡ self.old.account }
         ensures limits { self.new.limits ≡ self.old.limits }
     {
         if self.below.holds(key) {
@@ -79,33 +71,15 @@ impl<B: Backend> Backend for Quota<B> {
         (B.Backend.valid b.below) };
 
     fn put(&mut self, key: Key, page: &[u8]) -> Result<(), Refusal> {
-        let label = self.label;
-        if page.len() != PAGE_BYTES {
-            return Err(Refusal {
-                cause: Cause::NotAPage,
-                key,
-                label,
-            });
-        }
-        self.offers = self.offers.one_more();
+        self.account.offer(key, page)?;
         if self.at_limit(key) {
-            return Err(Refusal {
-                cause: Cause::OverLimit,
-                key,
-                label,
-            });
+            return Err(self.account.refusal(Cause::OverLimit, key));
         }
         self.below.put(key, page)
     }
 
     fn get(&mut self, key: Key, out: &mut [u8]) -> Result<bool, Refusal> {
-        if out.len() != PAGE_BYTES {
-            return Err(Refusal {
-                cause: Cause::NotAPage,
-                key,
-                label: self.label,
-            });
-        }
+        self.account.check(key, out)?;
         self.below.get(key, out)
     }
 
@@ -130,6 +104,6 @@ impl<B: Backend> Backend for Quota<B> {
     }
 
     fn offers(&self) -> Count {
-        self.offers
+        self.account.offers()
     }
 }

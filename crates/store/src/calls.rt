@@ -12,20 +12,19 @@ ghost use Rattle.store.specs.StatesLemmas.{listed_is};
 
 use crate::pages::HeldPages;
 use crate::store::Store;
-use backend::{Backend, Cause, Refusal};
-use page::{Count, Key, PAGE_BYTES};
+use backend::{Account, Backend, Cause, Refusal};
+use page::{Count, Key};
 
 impl<H: HeldPages> Store<H> {
     /// A store with this label over held pages.
     pub fn new(label: u32, pages: H) -> Store<H>
-        ensures label { result.label ≡ label }
-        ensures offers { result.offers ≡ count_of 0 }
+        ensures label { result.account.label ≡ label }
+        ensures offers { result.account.offers ≡ count_of 0 }
         ensures pages { result.pages ≡ pages }
         ensures new { H.HeldPages.entries pages ≡ [] → New (list_rules H.HeldPages.lack) (store_state H.HeldPages.fixed H.HeldPages.entries result) }
     {
         Store {
-            label,
-            offers: Count::zero(),
+            account: Account::new(label),
             pages,
         }
     }
@@ -41,11 +40,7 @@ impl<H: HeldPages> Store<H> {
     pub fn into_pages(self) -> H
         ensures { result ≡ self.pages }
     {
-        let Store {
-            label: _,
-            offers: _,
-            pages,
-        } = self;
+        let Store { pages, .. } = self;
         pages
     }
 }
@@ -69,10 +64,10 @@ fn drop_block<H: HeldPages>(pages: &mut H, key: Key, size: u32)
     ensures entries { H.HeldPages.entries pages.new ≡ without (in_block size (key.number / size)) (H.HeldPages.entries pages.old) }
     ensures fixed { H.HeldPages.fixed pages.new ≡ H.HeldPages.fixed pages.old }
 {
-    let block = key.number() / size;
-    let first = Key::from_number(block * size);
+    let block = u32::from(key) / size;
+    let first = Key::from(block * size);
     while let Some(next) = pages.first_from(first) {
-        if next.number() / size != block {
+        if u32::from(next) / size != block {
             return;
         }
         pages.remove(next);
@@ -94,41 +89,24 @@ impl<H: HeldPages> Backend for Store<H> {
     ghost valid = { λ b. subst (λ (es : List Entry). tidy es ≡ true) (sym (listed_is _)) (H.HeldPages.tidied b.pages) };
 
     fn put(&mut self, key: Key, page: &[u8]) -> Result<(), Refusal> {
-        let label = self.label;
-        if page.len() != PAGE_BYTES {
-            return Err(Refusal {
-                cause: Cause::NotAPage,
-                key,
-                label,
-            });
-        }
-        self.offers = self.offers.one_more();
+        self.account.offer(key, page)?;
         self.pages.remove(key);
         make_room(&mut self.pages, page);
         if self.pages.append(key, page) {
             Ok(())
         } else {
-            Err(Refusal {
-                cause: Cause::NoPlace,
-                key,
-                label,
-            })
+            Err(self.account.refusal(Cause::NoPlace, key))
         }
     }
 
     fn get(&mut self, key: Key, out: &mut [u8]) -> Result<bool, Refusal> {
-        if out.len() != PAGE_BYTES {
-            return Err(Refusal {
-                cause: Cause::NotAPage,
-                key,
-                label: self.label,
-            });
-        }
-        if key.is_ephemeral() {
-            Ok(self.pages.take(key, out))
+        self.account.check(key, out)?;
+        let found = if key.is_ephemeral() {
+            self.pages.take(key, out)
         } else {
-            Ok(self.pages.read(key, out))
-        }
+            self.pages.read(key, out)
+        };
+        Ok(found)
     }
 
     fn drop_page(&mut self, key: Key) {
@@ -152,6 +130,6 @@ impl<H: HeldPages> Backend for Store<H> {
     }
 
     fn offers(&self) -> Count {
-        self.offers
+        self.account.offers()
     }
 }

@@ -1,10 +1,9 @@
 //! A store that follows the list of held pages.
-use page::Count;
+use backend::Account;
 
-/// Held pages with a label and an offer count.
+/// Held pages, with the label of the store and its offer count.
 #[derive(Drop)]
 pub struct Store<H> {
-    pub(crate) label: u32,
-    pub(crate) offers: Count,
+    pub(crate) account: Account,
     pub(crate) pages: H,
 }

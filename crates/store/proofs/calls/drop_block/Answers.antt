@@ -6,8 +6,8 @@ use Rattle.store.specs.Blocks.{in_block}
 use Rattle.store.proofs.Blocks.{block_ended, block_passed, without_one}
 use Rattle.store.proofs.calls.drop_block.Goals as goal
 
-pub returns-then-number-size : goal.returns-then-number-size
-returns-then-number-size g c =
+pub returns-then-from-size : goal.returns-then-from-size
+returns-then-from-size g c =
     let es = g.H.HeldPages.entries c.loop-next.pages in
     let start = g.H.HeldPages.entries c.args.pages.now in
     let size = c.args.size in

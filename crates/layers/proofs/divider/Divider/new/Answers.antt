@@ -4,9 +4,9 @@ use Rattle.layers.proofs.divider.Divider.new.Goals as goal
 
 pub returns : goal.returns
 returns g c = record {
-  label = refl;
-  offers = c.zero.ensures;
+  label = c.new.ensures.label;
+  offers = c.new.ensures.offers;
   first = refl;
   second = refl;
-  new = λ n m. divider_new g.A.Backend.rules g.B.Backend.rules _ c.zero.ensures n m;
+  new = λ n m. divider_new g.A.Backend.rules g.B.Backend.rules _ c.new.ensures.offers n m;
 }

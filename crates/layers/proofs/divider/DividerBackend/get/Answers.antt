@@ -6,13 +6,15 @@ use Rattle.backend.specs.States.{View, encode}
 use Rattle.backend.specs.declared.refusals.Refusal.{Refusal}
 use Rattle.backend.specs.Codec.{decode_encode}
 use Rattle.layers.specs.Sides.{view_held, moved_even, moved_odd}
+use Rattle.layers.specs.Divider.{divider_view}
+use Rattle.backend.proofs.Accounts.{passed}
 use Rattle.layers.proofs.divider.DividerBackend.get.Goals as goal
 
 abbrev found : Option (List ℕ) → Result Bool Refusal
 found o = Ok (is_some o)
 
-pub returns-then-out-ne-PAGE_BYTES : goal.returns-then-out-ne-PAGE_BYTES
-returns-then-out-ne-PAGE_BYTES g c = search (rules, decode_encode)
+pub returns-in_err-check : goal.returns-in_err-check
+returns-in_err-check g c = search (rules, decode_encode)
 
 pub returns-then-is_ephemeral : goal.returns-then-is_ephemeral
 returns-then-is_ephemeral g c =
@@ -21,8 +23,8 @@ returns-then-is_ephemeral g c =
     let d = c.args.self.now in
     let k = c.args.key.number in
     let out = c.args.out.now in
-    let v : View = record { label = d.label; offers = d.offers; first = g.A.Backend.state d.first; second = g.B.Backend.state d.second } in
-    let page = eq-eqb _ _ c.if-out-ne-PAGE_BYTES.false in
+    let v = divider_view g.A.Backend.state g.B.Backend.state d in
+    let page = passed _ _ _ c.check.ensures c.in_ok-check.was in
     let side = sym c.if-is_ephemeral.ensures in
     let there = view_held R S v k ∙ cond-true (ephemeral k) _ _ side in
     let next = moved_even v k (λ o. o) (λ t. R.get_next t k) (λ t. S.get_next t k) side in
@@ -31,7 +33,7 @@ returns-then-is_ephemeral g c =
       answer =
           c.get.ensures.answer ∙ cond-true (is_page out) _ _ page
           ∙ sym (cond-true (is_page out) _ _ page ∙ ap found there);
-      after = ap (λ (t : List ℕ). encode (record { label = d.label; offers = d.offers; first = t; second = g.B.Backend.state d.second })) under ∙ sym (cond-true (is_page out) _ _ page ∙ next);
+      after = ap (λ (t : List ℕ). encode (record { label = d.account.label; offers = d.account.offers; first = t; second = g.B.Backend.state d.second })) under ∙ sym (cond-true (is_page out) _ _ page ∙ next);
       buffer =
           c.get.ensures.buffer ∙ cond-true (is_page out) _ _ page
           ∙ sym (cond-true (is_page out) _ _ page ∙ ap (λ (o : Option (List ℕ)). copied o out) there);
@@ -44,8 +46,8 @@ returns-else-is_ephemeral g c =
     let d = c.args.self.now in
     let k = c.args.key.number in
     let out = c.args.out.now in
-    let v : View = record { label = d.label; offers = d.offers; first = g.A.Backend.state d.first; second = g.B.Backend.state d.second } in
-    let page = eq-eqb _ _ c.if-out-ne-PAGE_BYTES.false in
+    let v = divider_view g.A.Backend.state g.B.Backend.state d in
+    let page = passed _ _ _ c.check.ensures c.in_ok-check.was in
     let side = sym c.if-is_ephemeral.ensures in
     let there = view_held R S v k ∙ cond-false (ephemeral k) _ _ side in
     let next = moved_odd v k (λ o. o) (λ t. R.get_next t k) (λ t. S.get_next t k) side in
@@ -54,7 +56,7 @@ returns-else-is_ephemeral g c =
       answer =
           c.get-else-is_ephemeral.ensures.answer ∙ cond-true (is_page out) _ _ page
           ∙ sym (cond-true (is_page out) _ _ page ∙ ap found there);
-      after = ap (λ (t : List ℕ). encode (record { label = d.label; offers = d.offers; first = g.A.Backend.state d.first; second = t })) under ∙ sym (cond-true (is_page out) _ _ page ∙ next);
+      after = ap (λ (t : List ℕ). encode (record { label = d.account.label; offers = d.account.offers; first = g.A.Backend.state d.first; second = t })) under ∙ sym (cond-true (is_page out) _ _ page ∙ next);
       buffer =
           c.get-else-is_ephemeral.ensures.buffer ∙ cond-true (is_page out) _ _ page
           ∙ sym (cond-true (is_page out) _ _ page ∙ ap (λ (o : Option (List ℕ)). copied o out) there);

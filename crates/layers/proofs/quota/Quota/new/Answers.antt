@@ -4,9 +4,9 @@ use Rattle.layers.proofs.quota.Quota.new.Goals as goal
 
 pub returns : goal.returns
 returns g c = record {
-  label = refl;
-  offers = c.zero.ensures;
+  label = c.new.ensures.label;
+  offers = c.new.ensures.offers;
   limits = refl;
   below = refl;
-  new = λ n. quota_new g.B.Backend.rules _ c.zero.ensures n;
+  new = λ n. quota_new g.B.Backend.rules _ c.new.ensures.offers n;
 }

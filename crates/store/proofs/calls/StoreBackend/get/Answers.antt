@@ -2,18 +2,20 @@ use Rattle.std.proofs.Common.{sym, ◌∙◌, rules, eq-eqb}
 use Rattle.backend.specs.Listing.{ListState}
 use Rattle.store.proofs.Gets.{got_answer, got_buffer, taken_after, read_after}
 use Rattle.store.specs.StatesLemmas.{label_is}
+use Rattle.store.specs.States.{store_view}
+use Rattle.backend.proofs.Accounts.{passed}
 use Rattle.store.proofs.calls.StoreBackend.get.Goals as goal
 
-pub returns-then-out-ne-PAGE_BYTES : goal.returns-then-out-ne-PAGE_BYTES
-returns-then-out-ne-PAGE_BYTES g c = search (rules, label_is)
+pub returns-in_err-check : goal.returns-in_err-check
+returns-in_err-check g c = search (rules, label_is)
 
 pub returns-then-is_ephemeral : goal.returns-then-is_ephemeral
 returns-then-is_ephemeral g c =
     let b = c.args.self.now in
-    let v : ListState = record { label = b.label; offers = b.offers; fixed = g.H.HeldPages.fixed b.pages; entries = g.H.HeldPages.entries b.pages } in
+    let v = store_view g.H.HeldPages.fixed g.H.HeldPages.entries b in
     let k = c.args.key.number in
     let out = c.args.out.now in
-    let page = eq-eqb _ _ c.if-out-ne-PAGE_BYTES.false in
+    let page = passed _ _ _ c.check.ensures c.in_ok-check.was in
     let lack = g.H.HeldPages.lack in
     record {
       answer = got_answer lack v k out page _ _ c.take.ensures.answer;
@@ -24,10 +26,10 @@ returns-then-is_ephemeral g c =
 pub returns-else-is_ephemeral : goal.returns-else-is_ephemeral
 returns-else-is_ephemeral g c =
     let b = c.args.self.now in
-    let v : ListState = record { label = b.label; offers = b.offers; fixed = g.H.HeldPages.fixed b.pages; entries = g.H.HeldPages.entries b.pages } in
+    let v = store_view g.H.HeldPages.fixed g.H.HeldPages.entries b in
     let k = c.args.key.number in
     let out = c.args.out.now in
-    let page = eq-eqb _ _ c.if-out-ne-PAGE_BYTES.false in
+    let page = passed _ _ _ c.check.ensures c.in_ok-check.was in
     let lack = g.H.HeldPages.lack in
     record {
       answer = got_answer lack v k out page _ _ c.read.ensures.answer;

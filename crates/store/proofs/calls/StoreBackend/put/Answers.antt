@@ -4,18 +4,20 @@ use Rattle.backend.specs.Listing.{ListState}
 use Rattle.backend.specs.Outcomes.{is_page}
 use Rattle.store.proofs.Puts.{rest_is, put_answer, put_after, counted}
 use Rattle.store.specs.StatesLemmas.{label_is}
+use Rattle.store.specs.States.{store_view}
+use Rattle.backend.proofs.Accounts.{passed}
 use Rattle.store.proofs.calls.StoreBackend.put.Goals as goal
 
-pub returns-then-page-ne-PAGE_BYTES : goal.returns-then-page-ne-PAGE_BYTES
-returns-then-page-ne-PAGE_BYTES g c = search (rules, label_is)
+pub returns-in_err-offer : goal.returns-in_err-offer
+returns-in_err-offer g c = search (rules, label_is)
 
 pub returns-then-append : goal.returns-then-append
 returns-then-append g c =
     let b = c.args.self.now in
-    let v : ListState = record { label = b.label; offers = b.offers; fixed = g.H.HeldPages.fixed b.pages; entries = g.H.HeldPages.entries b.pages } in
+    let v = store_view g.H.HeldPages.fixed g.H.HeldPages.entries b in
     let k = c.args.key.number in
     let p = c.args.page.now in
-    let page = eq-eqb _ _ c.if-page-ne-PAGE_BYTES.false in
+    let page = passed _ _ _ c.offer.ensures.answer c.in_ok-offer.was in
     let lack = g.H.HeldPages.lack in
     let r = c.remove.ensures in
     let m = c.make_room.ensures in
@@ -31,10 +33,10 @@ returns-then-append g c =
 pub returns-else-append : goal.returns-else-append
 returns-else-append g c =
     let b = c.args.self.now in
-    let v : ListState = record { label = b.label; offers = b.offers; fixed = g.H.HeldPages.fixed b.pages; entries = g.H.HeldPages.entries b.pages } in
+    let v = store_view g.H.HeldPages.fixed g.H.HeldPages.entries b in
     let k = c.args.key.number in
     let p = c.args.page.now in
-    let page = eq-eqb _ _ c.if-page-ne-PAGE_BYTES.false in
+    let page = passed _ _ _ c.offer.ensures.answer c.in_ok-offer.was in
     let lack = g.H.HeldPages.lack in
     let r = c.remove.ensures in
     let m = c.make_room.ensures in
