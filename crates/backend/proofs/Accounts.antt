@@ -1,9 +1,7 @@
 -- What passes the test of its length is a page, and its offer was counted.
 use Rattle.std.proofs.Common.{◌≡◌, Bool, true, false, cond, List, ℕ, Ok, Err, Result, sym, refl, ◌∙◌, arith}
 use Rattle.std.proofs.lemmas.Bool.{cond-true}
-use Rattle.page.specs.declared.keys.Key.{Key}
-use Rattle.backend.specs.Accounts.{checked, offered, refusal_of}
-use Rattle.backend.specs.Outcomes.{is_page}
+use Rattle.backend.specs.Accounts.{offered}
 use Rattle.backend.specs.States.{encode}
 use Rattle.backend.specs.declared.account.Account.{Account}
 use Rattle.backend.specs.declared.refusals.Refusal.{Refusal}

@@ -1,10 +1,10 @@
 -- A put: its key goes, room is made, and the page joins if it has a place.
 use Rattle.std.proofs.Common.{◌≡◌, ℕ, Bool, true, false, cond, not, ◌&&◌, List, [], ◌∷◌, ◌++◌, is_some, Some, None, Ok, Err, Option, sym, refl, ap, ◌∙◌, arith}
 use Rattle.std.proofs.lemmas.Bool.{cond-true, eq-eqb, false≢true}
-use Rattle.page.specs.declared.counts.Count.{Count}
 use Rattle.backend.specs.Listing.{ListState, write_state, without, one, room_made, cleared, joined_if, list_rules}
 use Rattle.backend.specs.Outcomes.{granted_unless, is_page}
 use Rattle.backend.specs.Rules.{Entry, lookup}
+use Rattle.backend.specs.declared.account.Account.{Account}
 use Rattle.backend.specs.declared.refusals.Cause.TheVariants.{NoPlace}
 use Rattle.backend.proofs.Evictions.{thinned_none, thinned_room, lookup_named}
 use Rattle.backend.specs.Finding.{joins}
@@ -67,8 +67,8 @@ module _ (lack : List ℕ → List Entry → List ℕ → Bool) (v : ListState) 
         ∙ sym (put_next_is lack v k p))
 
   -- the offer was counted
-  pub counted : is_page p ≡ true → (label : ℕ) (o n : Count) (t u : List ℕ) (es : List Entry) → n ≡ o
-      → write_state (record { label = label; offers = o; fixed = t; entries = es }) ≡ u
-      → write_state (record { label = label; offers = n; fixed = t; entries = es }) ≡ cond (is_page p) u (write_state v)
-  counted page label o n t u es same h =
-      ap (λ (m : Count). write_state (record { label = label; offers = m; fixed = t; entries = es })) same ∙ (h ∙ sym (cond-true (is_page p) _ _ page))
+  pub put_counted : is_page p ≡ true → (a b : Account) (t u : List ℕ) (es : List Entry) → b ≡ a
+      → write_state (record { label = a.label; offers = a.offers; fixed = t; entries = es }) ≡ u
+      → write_state (record { label = b.label; offers = b.offers; fixed = t; entries = es }) ≡ cond (is_page p) u (write_state v)
+  put_counted page a b t u es same h =
+      ap (λ (c : Account). write_state (record { label = c.label; offers = c.offers; fixed = t; entries = es })) same ∙ (h ∙ sym (cond-true (is_page p) _ _ page))

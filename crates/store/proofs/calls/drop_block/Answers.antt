@@ -11,12 +11,12 @@ returns-then-from-size g c =
     let es = g.H.HeldPages.entries c.loop-next.pages in
     let start = g.H.HeldPages.entries c.args.pages.now in
     let size = c.args.size in
-    let block = c.number.result / size in
+    let block = c.from.result / size in
     let same =
-    block_passed size block c.requires es c.from_number-first.result.number c.from_number-first.ensures.value
-    c.in-Some.next c.number-in-Some.result c.number-in-Some.ensures c.in-Some.ensures c.if-number-size.true in
+    block_passed size block c.requires es c.from-first.result.number c.from-first.ensures.value
+    c.in-Some.next c.from-in-Some.result c.from-in-Some.ensures c.in-Some.ensures c.if-from-size.true in
     record {
-      entries = sym same ∙ (c.loop-next.invariant.0 ∙ ap (λ (n : ℕ). without (in_block size (n / size)) start) c.number.ensures);
+      entries = sym same ∙ (c.loop-next.invariant.0 ∙ ap (λ (n : ℕ). without (in_block size (n / size)) start) c.from.ensures);
       fixed = c.loop-next.invariant.1;
     }
 
@@ -30,9 +30,9 @@ pub loop-next-preserved : goal.loop-next-preserved
 loop-next-preserved g c =
     let es = g.H.HeldPages.entries c.loop-next.pages in
     let size = c.args.size in
-    let named = in_block size (c.number.result / size) in
+    let named = in_block size (c.from.result / size) in
     let k = c.in-Some.next.number in
-    let of_block = eq-eqb (k / size) (c.number.result / size) (ap (λ (n : ℕ). n / size) (sym c.number-in-Some.ensures) ∙ c.if-number-size.false) in (
+    let of_block = eq-eqb (k / size) (c.from.result / size) (ap (λ (n : ℕ). n / size) (sym c.from-in-Some.ensures) ∙ c.if-from-size.false) in (
       ap (without named) c.remove.ensures.entries ∙ (without_one named k of_block es ∙ c.loop-next.invariant.0),
       c.remove.ensures.fixed ∙ c.loop-next.invariant.1,
     )
@@ -42,9 +42,9 @@ returns g c =
     let es = g.H.HeldPages.entries c.loop-next.pages in
     let start = g.H.HeldPages.entries c.args.pages.now in
     let size = c.args.size in
-    let block = c.number.result / size in
-    let same = block_ended size block c.requires es c.from_number-first.result.number c.from_number-first.ensures.value c.in_default.ensures in
+    let block = c.from.result / size in
+    let same = block_ended size block c.requires es c.from-first.result.number c.from-first.ensures.value c.in_default.ensures in
     record {
-      entries = sym same ∙ (c.loop-next.invariant.0 ∙ ap (λ (n : ℕ). without (in_block size (n / size)) start) c.number.ensures);
+      entries = sym same ∙ (c.loop-next.invariant.0 ∙ ap (λ (n : ℕ). without (in_block size (n / size)) start) c.from.ensures);
       fixed = c.loop-next.invariant.1;
     }

@@ -1,5 +1,5 @@
 use Rattle.std.proofs.Common.{ℕ, List, sym, ap, ◌∙◌}
-use Rattle.backend.specs.States.{View, encode}
+use Rattle.backend.specs.States.{encode}
 use Rattle.layers.specs.Sides.{moved_even, moved_odd}
 use Rattle.layers.specs.Divider.{divider_view}
 use Rattle.layers.proofs.divider.DividerBackend.drop_object.Goals as goal

@@ -1,8 +1,8 @@
 use Rattle.std.proofs.Common.{ℕ, Bool, List, is_some, Ok, Option, Result, sym, ap, ◌∙◌, rules}
-use Rattle.std.proofs.lemmas.Bool.{cond-true, cond-false, eq-eqb}
+use Rattle.std.proofs.lemmas.Bool.{cond-true, cond-false}
 use Rattle.page.specs.Keys.{ephemeral}
 use Rattle.backend.specs.Outcomes.{copied, is_page}
-use Rattle.backend.specs.States.{View, encode}
+use Rattle.backend.specs.States.{encode}
 use Rattle.backend.specs.declared.refusals.Refusal.{Refusal}
 use Rattle.backend.specs.Codec.{decode_encode}
 use Rattle.layers.specs.Sides.{view_held, moved_even, moved_odd}

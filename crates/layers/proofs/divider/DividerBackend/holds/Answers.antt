@@ -1,7 +1,7 @@
 use Rattle.std.proofs.Common.{ℕ, List, is_some, Option, sym, ap, ◌∙◌}
 use Rattle.std.proofs.lemmas.Bool.{cond-true, cond-false}
 use Rattle.page.specs.Keys.{ephemeral}
-use Rattle.backend.specs.States.{View, encode}
+use Rattle.backend.specs.States.{encode}
 use Rattle.layers.specs.Sides.{view_held}
 use Rattle.layers.specs.Divider.{divider_view}
 use Rattle.layers.proofs.divider.DividerBackend.holds.Goals as goal

@@ -1,6 +1,6 @@
 use Rattle.std.proofs.Common.{ℕ, ◌%◌, eqb, List, sym, ap, ◌∙◌}
 use Rattle.std.proofs.lemmas.Bool.{cond-true, cond-false, eq-eqb, ne_eqb}
-use Rattle.backend.specs.States.{View, encode}
+use Rattle.backend.specs.States.{encode}
 use Rattle.layers.specs.Sides.{view_pool_pages}
 use Rattle.layers.specs.Divider.{divider_view}
 use Rattle.layers.proofs.divider.DividerBackend.pool_pages.Goals as goal

@@ -1,9 +1,8 @@
 use Rattle.std.proofs.Common.{sym, refl, ap, ◌∙◌, rules}
-use Rattle.std.proofs.lemmas.Bool.{cond-true, cond-false, eq-eqb}
+use Rattle.std.proofs.lemmas.Bool.{cond-true, cond-false}
 use Rattle.page.specs.Counts.{one_more}
 use Rattle.page.specs.Keys.{ephemeral}
 use Rattle.backend.specs.Outcomes.{granted_unless, is_page}
-use Rattle.backend.specs.States.{View}
 use Rattle.backend.specs.Codec.{decode_encode}
 use Rattle.layers.specs.Sides.{view_refusal, moved_even, moved_odd}
 use Rattle.layers.specs.Divider.{divider_view}

@@ -1,7 +1,6 @@
-use Rattle.std.proofs.Common.{ℕ, List, Err, sym, ap, ◌∙◌, rules, eq-eqb}
+use Rattle.std.proofs.Common.{ℕ, List, Err, sym, ap, ◌∙◌, rules}
 use Rattle.std.proofs.lemmas.Bool.{cond-true}
 use Rattle.backend.specs.Outcomes.{granted_unless, is_page}
-use Rattle.backend.specs.States.{View}
 use Rattle.backend.specs.Accounts.{refusal_of}
 use Rattle.backend.specs.declared.account.Account.{Account}
 use Rattle.backend.specs.declared.refusals.Cause.TheVariants.{OverLimit}

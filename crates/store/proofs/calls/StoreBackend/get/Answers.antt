@@ -1,5 +1,4 @@
-use Rattle.std.proofs.Common.{sym, ◌∙◌, rules, eq-eqb}
-use Rattle.backend.specs.Listing.{ListState}
+use Rattle.std.proofs.Common.{sym, ◌∙◌, rules}
 use Rattle.store.proofs.Gets.{got_answer, got_buffer, taken_after, read_after}
 use Rattle.store.specs.StatesLemmas.{label_is}
 use Rattle.store.specs.States.{store_view}
@@ -18,9 +17,9 @@ returns-then-is_ephemeral g c =
     let page = passed _ _ _ c.check.ensures c.in_ok-check.was in
     let lack = g.H.HeldPages.lack in
     record {
-      answer = got_answer lack v k out page _ _ c.take.ensures.answer;
-      after = taken_after lack v k out page _ _ (sym c.is_ephemeral.ensures ∙ c.if-is_ephemeral.true) c.take.ensures.fixed c.take.ensures.entries;
-      buffer = got_buffer lack v k out page _ c.take.ensures.buffer;
+      answer = got_answer lack v k out page _ _ c.take-found.ensures.answer;
+      after = taken_after lack v k out page _ _ (sym c.is_ephemeral.ensures ∙ c.if-is_ephemeral.true) c.take-found.ensures.fixed c.take-found.ensures.entries;
+      buffer = got_buffer lack v k out page _ c.take-found.ensures.buffer;
     }
 
 pub returns-else-is_ephemeral : goal.returns-else-is_ephemeral
@@ -32,7 +31,7 @@ returns-else-is_ephemeral g c =
     let page = passed _ _ _ c.check.ensures c.in_ok-check.was in
     let lack = g.H.HeldPages.lack in
     record {
-      answer = got_answer lack v k out page _ _ c.read.ensures.answer;
+      answer = got_answer lack v k out page _ _ c.read-found.ensures.answer;
       after = read_after lack v k out page (sym c.is_ephemeral.ensures ∙ c.if-is_ephemeral.false);
-      buffer = got_buffer lack v k out page _ c.read.ensures.buffer;
+      buffer = got_buffer lack v k out page _ c.read-found.ensures.buffer;
     }

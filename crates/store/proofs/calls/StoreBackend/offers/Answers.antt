@@ -1,6 +1,6 @@
-use Rattle.std.proofs.Common.{sym}
+use Rattle.std.proofs.Common.{sym, ◌∙◌}
 use Rattle.store.specs.StatesLemmas.{offers_are}
 use Rattle.store.proofs.calls.StoreBackend.offers.Goals as goal
 
 pub returns : goal.returns
-returns g c = sym (offers_are _)
+returns g c = c.offers.ensures ∙ sym (offers_are _)

@@ -6,12 +6,12 @@ use Rattle.store.proofs.store.Store.new.Goals as goal
 
 pub returns : goal.returns
 returns g c = record {
-  label = refl;
-  offers = c.zero.ensures;
+  label = c.new.ensures.label;
+  offers = c.new.ensures.offers;
   pages = refl;
   new = λ none. record {
     valid = subst (λ (es : List Entry). tidy es ≡ true) (sym (listed_is _)) (g.met.H.HeldPages.tidied c.args.pages);
     empty = listed_is _ ∙ none;
-    unoffered = offers_are _ ∙ c.zero.ensures;
+    unoffered = offers_are _ ∙ c.new.ensures.offers;
   };
 }
