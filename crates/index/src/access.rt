@@ -4,8 +4,8 @@ ghost use Rattle.index.specs.Refusals.{number_of};
 ghost use Rattle.index.specs.Sound.{heads_of, records_of};
 ghost use Rattle.index.specs.Filing.{nodes_of, slots_of};
 
-use super::node::Node;
-use super::slot::{Slot, record_in, set_record};
+use super::memory::IndexMemory;
+use super::slot::{record_in, set_record};
 use super::tree::{FileRefusal, Tree};
 
 impl FileRefusal {
@@ -64,10 +64,13 @@ impl<R: Copy> Tree<R> {
     }
 
     // The memory that the tree was made over.
-    pub(crate) fn into_parts(self) -> (Vec<Node>, Vec<Slot<R>>)
-        ensures nodes { result.0 ≡ self.nodes }
-        ensures slots { result.1 ≡ self.slots }
+    pub(crate) fn into_memory(self) -> IndexMemory<R>
+        ensures nodes { result.nodes ≡ self.nodes }
+        ensures slots { result.slots ≡ self.slots }
     {
-        (self.nodes, self.slots)
+        IndexMemory {
+            nodes: self.nodes,
+            slots: self.slots,
+        }
     }
 }

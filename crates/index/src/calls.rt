@@ -4,28 +4,27 @@ ghost use Rattle.index.specs.Map.{look, put, without, from, FirstFrom, keys, rul
 ghost use Rattle.index.specs.View.{view, nodes, slots, free_nodes, free_slots};
 
 use super::index::Index;
-use crate::node::Node;
-use crate::slot::Slot;
+use crate::memory::IndexMemory;
 use crate::tree::{FileRefusal, Tree};
 
 impl<R: Copy> Index<R> {
     /// An empty index over the memory given, whatever it holds. Of a `Vec` with more than `LIMIT` entries the others are let go.
-    pub fn new(node_memory: Vec<Node>, slot_memory: Vec<Slot<R>>) -> Index<R>
+    pub fn new(memory: IndexMemory<R>) -> Index<R>
         ensures none { view result ≡ [] }
-        ensures nodes { nodes result ≡ min (length node_memory.items) (2 ^ 31 - 1) }
-        ensures slots { slots result ≡ min (length slot_memory.items) (2 ^ 31 - 1) }
+        ensures nodes { nodes result ≡ min (length memory.nodes.items) (2 ^ 31 - 1) }
+        ensures slots { slots result ≡ min (length memory.slots.items) (2 ^ 31 - 1) }
     {
         Index {
-            tree: Tree::new(node_memory, slot_memory),
+            tree: Tree::new(memory),
         }
     }
 
     /// Gives the memory back.
-    pub fn into_parts(self) -> (Vec<Node>, Vec<Slot<R>>)
-        ensures nodes { result.0 ≡ self.tree.nodes }
-        ensures slots { result.1 ≡ self.tree.slots }
+    pub fn into_memory(self) -> IndexMemory<R>
+        ensures nodes { result.nodes ≡ self.tree.nodes }
+        ensures slots { result.slots ≡ self.tree.slots }
     {
-        self.tree.into_parts()
+        self.tree.into_memory()
     }
 
     /// The record of the key.

@@ -4,6 +4,7 @@ ghost use Rattle.index.specs.Nodes.{path_in, child_in, free_in, mask_in, Masked}
 ghost use Rattle.index.specs.Slots.{heads, mark_in, slot_free_in};
 ghost use Rattle.index.specs.Filing.{Whole, keys_of, nodes_of, slots_of};
 
+use super::memory::IndexMemory;
 use super::node::{Node, set_path};
 use super::slot::{Head, Slot};
 use super::tree::Tree;
@@ -76,29 +77,31 @@ fn clear_slots<R: Copy>(slots: &mut Vec<Slot<R>>)
 }
 
 impl<R: Copy> Tree<R> {
-    // An empty tree over the nodes and slots given, of which it uses the first `LIMIT`, and lets go the others.
-    pub(crate) fn new(nodes: Vec<Node>, slots: Vec<Slot<R>>) -> Tree<R>
+    // An empty tree over the memory given, of which it uses the first `LIMIT`, and lets go the others.
+    pub(crate) fn new(memory: IndexMemory<R>) -> Tree<R>
         ensures whole { Whole result }
         ensures none { keys_of result ≡ [] }
-        ensures nodes { nodes_of result ≡ min (length nodes.items) (2 ^ 31 - 1) }
-        ensures slots { slots_of result ≡ min (length slots.items) (2 ^ 31 - 1) }
+        ensures nodes { nodes_of result ≡ min (length memory.nodes.items) (2 ^ 31 - 1) }
+        ensures slots { slots_of result ≡ min (length memory.slots.items) (2 ^ 31 - 1) }
     {
-        let mut ns = nodes;
-        let mut ss = slots;
-        ns.truncate(LIMIT);
-        ss.truncate(LIMIT);
-        clear_nodes(&mut ns);
-        clear_slots(&mut ss);
-        let n = ns.len();
-        let vacant = ss.len();
+        let IndexMemory {
+            mut nodes,
+            mut slots,
+        } = memory;
+        nodes.truncate(LIMIT);
+        slots.truncate(LIMIT);
+        clear_nodes(&mut nodes);
+        clear_slots(&mut slots);
+        let n = nodes.len();
+        let vacant = slots.len();
         let mut unused = 0;
         if n > 0 {
-            set_path(&mut ns, 0, 1, 0);
+            set_path(&mut nodes, 0, 1, 0);
             unused = n - 1;
         }
         Tree {
-            nodes: ns,
-            slots: ss,
+            nodes,
+            slots,
             unused,
             vacant,
         }

@@ -4,7 +4,7 @@
 #![tactic(auto)]
 
 use anyhow::anyhow;
-use index::{Index, Node, Slot};
+use index::{Index, IndexMemory};
 use std::alloc::Global;
 use std::env;
 
@@ -71,8 +71,7 @@ fn next_all(index: &Index<u64>, keys: u32) -> u32 {
 }
 
 fn anew(index: Index<u64>) -> Index<u64> {
-    let (nodes, slots) = index.into_parts();
-    Index::new(nodes, slots)
+    Index::new(index.into_memory())
 }
 
 // One round, and how many of its calls found something.
@@ -112,9 +111,8 @@ fn run(rt: &HostRuntime, heap: Global) -> anyhow::Result<()> {
     let Some(phase) = phase_named(name.as_str()) else {
         return Err(anyhow!("the phases are make, file, find, next and remove"));
     };
-    let nodes = vec![in heap; Node::BLANK; keys as usize * 7 + 1]?;
-    let slots = vec![in heap; Slot::new(0u64); keys as usize]?;
-    let mut index = Index::new(nodes, slots);
+    let places = keys as usize;
+    let mut index = Index::new(IndexMemory::new(heap, places * 7 + 1, places, 0u64)?);
     file_all(&mut index, keys);
     let mut hits = 0u32;
     for _ in 0..rounds {

@@ -4,7 +4,7 @@
 
 ghost use Rattle.std.specs.Prelude.{◌≤◌};
 
-use index::{FileRefusal, Index, Node, Slot};
+use index::{FileRefusal, Index, IndexMemory};
 use std::alloc::{AllocError, Global};
 use std::collections::{BTreeMap, BTreeSet};
 
@@ -158,9 +158,7 @@ fn sizes_agree(heap: Global, index: &Index<u32>, map: &BTreeMap<u32, u32>) -> an
 }
 
 fn walk(heap: Global) -> anyhow::Result<Counts> {
-    let nodes = vec![in heap; Node::BLANK; NODES]?;
-    let slots = vec![in heap; Slot::new(0u32); SLOTS]?;
-    let mut index = Index::new(nodes, slots);
+    let mut index = Index::new(IndexMemory::new(heap, NODES, SLOTS, 0u32)?);
     let mut map = BTreeMap::new(heap);
     let mut counts = Counts {
         filed: 0,
@@ -197,9 +195,7 @@ fn left_after_removals(index: &mut Index<u32>) -> (usize, usize) {
 
 // How many nodes two keys take in an index with room enough.
 fn nodes_of(heap: Global, a: u32, b: u32) -> anyhow::Result<usize> {
-    let nodes = vec![in heap; Node::BLANK; 16]?;
-    let slots = vec![in heap; Slot::new(0u32); 2]?;
-    let mut index = Index::new(nodes, slots);
+    let mut index = Index::new(IndexMemory::new(heap, 16, 2, 0u32)?);
     let _ = index.file(a, 1);
     let _ = index.file(b, 2);
     Ok(index.nodes_in_use())
