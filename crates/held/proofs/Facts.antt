@@ -1,13 +1,16 @@
 -- What is known of any held keys.
-use Rattle.std.proofs.Common.{◌≡◌, ℕ, ◌/◌, ◌^◌, ◌<◌, ◌≤◌, true, eqb, List, [], ◌∷◌, length, is_some, Some, vec_items, sym, refl, ap, ◌∙◌, subst, ⊎_elim, arith}
-use Rattle.std.specs.List.{AllByRecursion}
+use Rattle.std.proofs.Common.{◌≡◌, ℕ, ◌/◌, ◌^◌, ◌<◌, ◌≤◌, true, eqb, List, [], ◌∷◌, length, is_some, Some, None, Option, cond, vec_items, sym, refl, ap, ◌∙◌, subst, ⊎_elim, arith}
+use Rattle.std.specs.List.{AllByRecursion, find}
+use Rattle.std.specs.Option.{option_map}
+use Rattle.page.specs.Keys.{pool_of}
+use Rattle.page.specs.declared.keys.Key.{Key}
 use Rattle.std.proofs.lemmas.List.{length-map}
 use Rattle.std.proofs.lemmas.Bool.{cases_eq, eq-eqb, ne_eqb, cond-true, cond-false}
 use Rattle.backend.specs.Victims.{oldest_of, fullest, victim}
 use Rattle.index.specs.Map.{look}
 use Rattle.index.specs.View.{view, nodes, slots}
 use Rattle.held.specs.declared.held.Held.{Held}
-use Rattle.held.specs.Holdings.{Holding, keys, taken, place_of}
+use Rattle.held.specs.Holdings.{Holding, keys, taken, place_of, number_of}
 use Rattle.held.specs.Rings.{Apart}
 use Rattle.held.specs.View.{holdings, size_of}
 use Rattle.held.specs.Whole.{places, held_at, WholeIn}
@@ -30,6 +33,15 @@ oldest_held pool k (x ∷ H) e =
     oldest_held pool k H (sym (cond-false (eqb (x.key / 2 ^ 28) pool) (Some x.key) (oldest_of pool (keys H)) (ne_eqb (x.key / 2 ^ 28) pool r)) ∙ e))
     (cases_eq (x.key / 2 ^ 28) pool))
     (cases_eq x.key k)
+
+-- the oldest key of a pool is the first that a search for the pool finds
+pub oldest_found : (pool : ℕ) (ks : List ℕ) → oldest_of pool ks ≡ find (λ k. eqb (pool_of k) pool) ks
+oldest_found pool [] = refl
+oldest_found pool (k ∷ ks) = ap (λ (o : Option ℕ). cond (eqb (pool_of k) pool) (Some k) o) (oldest_found pool ks)
+
+pub numbered : (o : Option Key) → number_of o ≡ option_map (λ k. k.number) o
+numbered None = refl
+numbered (Some k) = refl
 
 pub whole : (h : Held) → WholeIn h.size h.count (vec_items h.table) (view h.index) (slots h.index) (nodes h.index)
 whole h = kept h.whole

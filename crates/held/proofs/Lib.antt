@@ -5,5 +5,6 @@ pub mod Fresh
 pub mod Links
 pub mod Moves
 pub mod Places
+pub mod PoolSizes
 pub mod Unique
 pub mod Walking

@@ -1,25 +1,14 @@
--- A walk along the held places, with `left` of them to go from a place on.
-use Rattle.std.specs.Prelude.{◌≡◌, ℕ, ◌+◌, ◌^◌, ◌<◌, List, length, slice_index}
-use Rattle.std.specs.List.{AllByRecursion}
-use Rattle.backend.specs.Victims.{pool_size, oldest_of}
+-- The held keys, one after another.
+use Rattle.std.specs.Prelude.{ℕ, zero, suc, cond, List, [], ◌∷◌, length, nat_lt}
+use Rattle.held.specs.declared.keys.Keys.{Keys}
 use Rattle.held.specs.declared.table.Record.{Record}
-use Rattle.held.specs.Holdings.{keys}
-use Rattle.held.specs.Records.{newer_in}
-use Rattle.held.specs.Rings.{walk}
-use Rattle.held.specs.Whole.{held_at}
+use Rattle.held.specs.Records.{key_in, newer_in}
 
--- the keys to come
+-- the keys at n places of a table, each newer than the one before it; past the table's end there are none
 abbrev pub keys_from : List Record → ℕ → ℕ → List ℕ
-keys_from table place left = keys (held_at table (walk (newer_in table) place left))
+keys_from table place zero = []
+keys_from table place (suc n) = cond (nat_lt place (length table)) (key_in table place ∷ keys_from table (newer_in table place) n) []
 
--- the sizes so far, with what is to come, are those of all keys
-pub record Counting (table : List Record) (size place left : ℕ) (all sizes : List ℕ) : Type 0 where
-  pub low : AllByRecursion (λ p. p < size) (walk (newer_in table) place left)
-  pub small : AllByRecursion (λ k. k < 2 ^ 32) (keys_from table place left)
-  pub sixteen : length sizes ≡ 16
-  pub sums : (p : ℕ) → p < 16 → slice_index sizes p + pool_size (keys_from table place left) p ≡ pool_size all p
-
--- the oldest key of the pool is to come, if there is one
-pub record Seeking (table : List Record) (size place left pool : ℕ) (all : List ℕ) : Type 0 where
-  pub low : AllByRecursion (λ p. p < size) (walk (newer_in table) place left)
-  pub oldest : oldest_of pool (keys_from table place left) ≡ oldest_of pool all
+-- the keys that are still to come
+abbrev pub keys_left : Keys → List ℕ
+keys_left s = keys_from s.table.now s.place s.left

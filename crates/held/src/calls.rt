@@ -4,7 +4,7 @@ ghost use Rattle.held.specs.Holdings.{place_of, without_key, Pushed, FirstHeld};
 ghost use Rattle.held.specs.View.{holdings, size_of};
 
 use crate::held::Held;
-use crate::table::{link_before, newer_than, set_key, unlink};
+use crate::table::{link_before, set_key, unlink};
 use page::Key;
 
 impl Held {
@@ -12,7 +12,7 @@ impl Held {
     pub fn find(&self, key: Key) -> Option<u16>
         ensures { result ≡ place_of key.number (holdings self.now) }
     {
-        self.index.find(key.number())
+        self.index.find(u32::from(key))
     }
 
     // Where the ring of held places begins and ends in the table.
@@ -42,12 +42,12 @@ impl Held {
             return None;
         }
         let end = self.held_end();
-        let place = newer_than(&self.table, self.free_end());
+        let place = self.table[usize::from(self.free_end())].newer;
         // the index has room for `size` keys, whatever they are
-        let _ = self.index.file(key.number(), place);
+        let _ = self.index.file(u32::from(key), place);
         unlink(&mut self.table, place);
         link_before(&mut self.table, end, place);
-        set_key(&mut self.table, place, key.number());
+        set_key(&mut self.table, place, key);
         self.count += 1;
         Some(place)
     }
@@ -59,7 +59,7 @@ impl Held {
         ensures after { holdings self.new ≡ without_key key.number (holdings self.old) }
     {
         let end = self.free_end();
-        let freed = self.index.remove(key.number())?;
+        let freed = self.index.remove(u32::from(key))?;
         unlink(&mut self.table, freed);
         link_before(&mut self.table, end, freed);
         self.count -= 1;
@@ -70,7 +70,7 @@ impl Held {
     pub fn first_from(&self, key: Key) -> Option<Key>
         ensures { FirstHeld key.number (holdings self.now) result }
     {
-        let number = self.index.first_at_or_after(key.number())?;
-        Some(Key::from_number(number))
+        let number = self.index.first_at_or_after(u32::from(key))?;
+        Some(Key::from(number))
     }
 }

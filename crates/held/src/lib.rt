@@ -4,6 +4,7 @@
 mod access;
 mod calls;
 mod held;
+mod keys;
 mod make;
 mod pools;
 mod table;

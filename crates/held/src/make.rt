@@ -8,7 +8,8 @@ ghost use Rattle.held.specs.View.{holdings, size_of};
 
 use crate::held::Held;
 use crate::table::{Record, close, link_before};
-use index::{Index, Node, Slot};
+use index::{Index, IndexMemory};
+use page::Key;
 use std::alloc::{AllocError, Global};
 
 /// The most keys that are held, whatever memory is given.
@@ -31,18 +32,13 @@ fn free_all(table: &mut Vec<Record>, size: usize)
 
 impl Held {
     /// No keys yet, and room for `most` of them, or as many as `MOST` and the memory of the index allow.
-    pub fn new(
-        heap: Global,
-        most: usize,
-        node_memory: Vec<Node>,
-        slot_memory: Vec<Slot<u16>>,
-    ) -> Result<Held, AllocError>
-        ensures { IfOk result (λ h. (holdings h ≡ []) × (size_of h ≡ min (min most 4096) (room (length slot_memory.items) (length node_memory.items)))) }
+    pub fn new(heap: Global, most: usize, memory: IndexMemory<u16>) -> Result<Held, AllocError>
+        ensures { IfOk result (λ h. (holdings h ≡ []) × (size_of h ≡ min (min most 4096) (room (length memory.slots.items) (length memory.nodes.items)))) }
     {
-        let index = Index::new(node_memory, slot_memory);
+        let index = Index::new(memory);
         let size = most.min(MOST).min(index.room());
         let blank = Record {
-            key: 0,
+            key: Key::from(0),
             older: 0,
             newer: 0,
         };
@@ -57,16 +53,11 @@ impl Held {
     }
 
     /// Gives the memory of the index back.
-    pub fn into_parts(self) -> (Vec<Node>, Vec<Slot<u16>>)
-        ensures nodes { result.0 ≡ self.index.tree.nodes }
-        ensures slots { result.1 ≡ self.index.tree.slots }
+    pub fn into_memory(self) -> IndexMemory<u16>
+        ensures nodes { result.nodes ≡ self.index.tree.nodes }
+        ensures slots { result.slots ≡ self.index.tree.slots }
     {
-        let Held {
-            size: _,
-            count: _,
-            table: _,
-            index,
-        } = self;
-        index.into_parts()
+        let Held { index, .. } = self;
+        index.into_memory()
     }
 }

@@ -6,7 +6,6 @@ ghost use Rattle.held.specs.Pools.{between};
 ghost use Rattle.held.specs.View.{holdings};
 
 use crate::held::Held;
-use crate::table::{key_at, newer_than};
 use page::Key;
 
 impl Held {
@@ -18,8 +17,8 @@ impl Held {
         if from >= end {
             return None;
         }
-        let key = self.first_from(Key::from_number(from as u32))?;
-        let number = u64::from(key.number());
+        let key = self.first_from(Key::from(from as u32))?;
+        let number = u64::from(u32::from(key));
         if number < end { Some(number) } else { None }
     }
 
@@ -33,6 +32,7 @@ impl Held {
         let mut from = u64::from(pool) << 28;
         let end = from + (1 << 28);
         let mut count = 0;
+        // an iterator of its own for this one count would be longer than the loop
         while let Some(key) = self.first_between(from, end) {
             count += 1;
             from = key + 1;
@@ -45,13 +45,8 @@ impl Held {
         ensures { (p : ℕ) → p < 16 → slice_index result p ≡ pool_size (keys (holdings self.now)) p }
     {
         let mut sizes = [0; 16];
-        let mut place = self.table[self.size].newer;
-        let mut left = self.count;
-        while left > 0 {
-            let pool = Key::from_number(key_at(&self.table, place)).pool();
-            sizes[pool as usize] += 1;
-            place = newer_than(&self.table, place);
-            left -= 1;
+        for key in self.keys() {
+            sizes[usize::from(key.pool())] += 1;
         }
         sizes
     }

@@ -3,66 +3,41 @@ ghost use Rattle.std.specs.Prelude.{◌≡◌, ℕ, ◌<◌, length, vec_len, �
 ghost use Rattle.held.specs.Records.{key_in, older_in, newer_in};
 ghost use Rattle.held.specs.Rings.{Unlinked, Linked};
 
-// A place: the key that is held there, and its neighbours in its ring. The end of a ring is such a record too, with no key.
+use page::Key;
+
+// A place: the key that is held there, and its neighbours in its ring. The end of a ring is such a record too, whose key says nothing.
+// Places are numbers, and no pointers: the table is made once, and no later call may want memory.
 #[derive(Clone, Copy)]
 pub(crate) struct Record {
-    pub(crate) key: u32,
+    pub(crate) key: Key,
     pub(crate) older: u16,
     pub(crate) newer: u16,
 }
 
-pub(crate) fn key_at(table: &Vec<Record>, place: u16) -> u32
-    requires { place < vec_len table.now }
-    ensures { result ≡ key_in table.now.items place }
-{
-    table[place as usize].key
-}
-
-pub(crate) fn older_than(table: &Vec<Record>, place: u16) -> u16
-    requires { place < vec_len table.now }
-    ensures { result ≡ older_in table.now.items place }
-{
-    table[place as usize].older
-}
-
-pub(crate) fn newer_than(table: &Vec<Record>, place: u16) -> u16
-    requires { place < vec_len table.now }
-    ensures { result ≡ newer_in table.now.items place }
-{
-    table[place as usize].newer
-}
-
-pub(crate) fn set_key(table: &mut Vec<Record>, place: u16, key: u32)
+pub(crate) fn set_key(table: &mut Vec<Record>, place: u16, key: Key)
     requires { place < vec_len table.old }
-    ensures here { key_in table.new.items place ≡ key }
+    ensures here { key_in table.new.items place ≡ key.number }
     ensures rest { (j : ℕ) → (j ≢ place) → key_in table.new.items j ≡ key_in table.old.items j }
     ensures older { (j : ℕ) → older_in table.new.items j ≡ older_in table.old.items j }
     ensures newer { (j : ℕ) → newer_in table.new.items j ≡ newer_in table.old.items j }
     ensures len { length table.new.items ≡ length table.old.items }
 {
-    table[place as usize].key = key;
+    table[usize::from(place)].key = key;
 }
 
-fn set_older(table: &mut Vec<Record>, place: u16, older: u16)
-    requires { place < vec_len table.old }
-    ensures here { older_in table.new.items place ≡ older }
-    ensures rest { (j : ℕ) → (j ≢ place) → older_in table.new.items j ≡ older_in table.old.items j }
-    ensures newer { (j : ℕ) → newer_in table.new.items j ≡ newer_in table.old.items j }
+// Makes two places neighbours.
+fn join(table: &mut Vec<Record>, older: u16, newer: u16)
+    requires older_within { older < vec_len table.old }
+    requires newer_within { newer < vec_len table.old }
+    ensures newer { newer_in table.new.items older ≡ newer }
+    ensures newer_rest { (j : ℕ) → (j ≢ older) → newer_in table.new.items j ≡ newer_in table.old.items j }
+    ensures older { older_in table.new.items newer ≡ older }
+    ensures older_rest { (j : ℕ) → (j ≢ newer) → older_in table.new.items j ≡ older_in table.old.items j }
     ensures keys { (j : ℕ) → key_in table.new.items j ≡ key_in table.old.items j }
     ensures len { length table.new.items ≡ length table.old.items }
 {
-    table[place as usize].older = older;
-}
-
-fn set_newer(table: &mut Vec<Record>, place: u16, newer: u16)
-    requires { place < vec_len table.old }
-    ensures here { newer_in table.new.items place ≡ newer }
-    ensures rest { (j : ℕ) → (j ≢ place) → newer_in table.new.items j ≡ newer_in table.old.items j }
-    ensures older { (j : ℕ) → older_in table.new.items j ≡ older_in table.old.items j }
-    ensures keys { (j : ℕ) → key_in table.new.items j ≡ key_in table.old.items j }
-    ensures len { length table.new.items ≡ length table.old.items }
-{
-    table[place as usize].newer = newer;
+    table[usize::from(older)].newer = newer;
+    table[usize::from(newer)].older = older;
 }
 
 // Makes the end a ring of no places.
@@ -74,8 +49,7 @@ pub(crate) fn close(table: &mut Vec<Record>, end: u16)
     ensures older_rest { (j : ℕ) → (j ≢ end) → older_in table.new.items j ≡ older_in table.old.items j }
     ensures len { length table.new.items ≡ length table.old.items }
 {
-    set_newer(table, end, end);
-    set_older(table, end, end);
+    join(table, end, end);
 }
 
 // Takes the place out from between its neighbours.
@@ -87,10 +61,8 @@ pub(crate) fn unlink(table: &mut Vec<Record>, place: u16)
     ensures keys { (j : ℕ) → key_in table.new.items j ≡ key_in table.old.items j }
     ensures len { length table.new.items ≡ length table.old.items }
 {
-    let older = older_than(table, place);
-    let newer = newer_than(table, place);
-    set_newer(table, older, newer);
-    set_older(table, newer, older);
+    let Record { older, newer, .. } = table[usize::from(place)];
+    join(table, older, newer);
 }
 
 // Puts the place between the end of a ring and the place before it.
@@ -102,9 +74,7 @@ pub(crate) fn link_before(table: &mut Vec<Record>, end: u16, place: u16)
     ensures keys { (j : ℕ) → key_in table.new.items j ≡ key_in table.old.items j }
     ensures len { length table.new.items ≡ length table.old.items }
 {
-    let last = older_than(table, end);
-    set_newer(table, last, place);
-    set_newer(table, place, end);
-    set_older(table, place, last);
-    set_older(table, end, place);
+    let last = table[usize::from(end)].older;
+    join(table, last, place);
+    join(table, place, end);
 }

@@ -6,7 +6,6 @@ ghost use Rattle.held.specs.Pools.{fullest_of};
 ghost use Rattle.held.specs.View.{holdings};
 
 use crate::held::Held;
-use crate::table::{key_at, newer_than};
 use page::Key;
 
 // The even pool of the greatest size, and of several the lowest.
@@ -16,7 +15,7 @@ fn fullest_even(sizes: &[u16; 16]) -> u8
     let mut best = 0;
     for half in 0..7u8 {
         let pool = 2 * half + 2;
-        if sizes[best as usize] < sizes[pool as usize] {
+        if sizes[usize::from(best)] < sizes[usize::from(pool)] {
             best = pool;
         }
     }
@@ -28,17 +27,7 @@ impl Held {
     fn oldest_of(&self, pool: u8) -> Option<Key>
         ensures { number_of result ≡ oldest_of pool (keys (holdings self.now)) }
     {
-        let mut place = self.table[self.size].newer;
-        let mut left = self.count;
-        while left > 0 {
-            let key = Key::from_number(key_at(&self.table, place));
-            if key.pool() == pool {
-                return Some(key);
-            }
-            place = newer_than(&self.table, place);
-            left -= 1;
-        }
-        None
+        self.keys().find(|key| key.pool() == pool)
     }
 
     /// The key that gives way: the oldest of the even pool that holds most keys, of several such pools the lowest. None where no even

@@ -1,7 +1,7 @@
-use Rattle.std.proofs.Common.{ℕ, get_or, ◌∙◌, arith}
+use Rattle.std.proofs.Common.{ℕ, get_or, sym, ◌∙◌, arith}
 use Rattle.held.proofs.Counts.{fullest_takes, fullest_keeps}
 use Rattle.held.proofs.victims.fullest_even.Goals as goal
-use Rattle.held.proofs.victims.fullest_even.Goals.{then-sizes-best, else-sizes-best}
+use Rattle.held.proofs.victims.fullest_even.Goals.{then-sizes-from, else-sizes-from}
 
 pub loop-half-preserved : goal.loop-half-preserved
 loop-half-preserved c =
@@ -9,7 +9,7 @@ loop-half-preserved c =
     let b = c.loop-half.best in
     let i = c.loop-half.invariant in
     let low = i.0 in
-    elim c.if-sizes-best.branch [
-      | then-sizes-best w ↦ (omega (arith, w.best-is), w.best-is ∙ fullest_takes f c.loop-half.half b i.1 w.if-sizes-best.true)
-      | else-sizes-best w ↦ (omega (arith, w.best-is), w.best-is ∙ fullest_keeps f c.loop-half.half b i.1 w.if-sizes-best.false)
+    elim c.if-sizes-from.branch [
+      | then-sizes-from w ↦ (omega (arith, w.best-is), w.best-is ∙ fullest_takes f c.loop-half.half b i.1 (rw (sym c.from.ensures, sym c.from-in-loop-half.ensures) w.if-sizes-from.true))
+      | else-sizes-from w ↦ (omega (arith, w.best-is), w.best-is ∙ fullest_keeps f c.loop-half.half b i.1 (rw (sym c.from.ensures, sym c.from-in-loop-half.ensures) w.if-sizes-from.false))
     ]

@@ -12,7 +12,7 @@ returns-then-from-end c = between_empty (keys (holdings c.args.self.now)) c.args
 pub returns-in_err-key : goal.returns-in_err-key
 returns-in_err-key c =
     let H = holdings c.args.self.now in
-    let f = subst (λ k. FirstHeld k H None) c.from_number.ensures.value c.in_err-key.ensures in
+    let f = subst (λ k. FirstHeld k H None) c.from.ensures.value c.in_err-key.ensures in
     rw c.from_residual.ensures (between_first_none H c.args.from c.args.end f)
 
 pub returns-then-number-end : goal.returns-then-number-end
@@ -20,8 +20,8 @@ returns-then-number-end c =
     let h = c.args.self.now in
     let H = holdings h in
     let key = c.in_ok-key.key in
-    let f = subst (λ k. FirstHeld k H (Some key)) c.from_number.ensures.value c.in_ok-key.ensures in
-    let is : key.number ≡ c.from-number.result = sym (c.from-number.ensures ∙ c.number.ensures) in
+    let f = subst (λ k. FirstHeld k H (Some key)) c.from.ensures.value c.in_ok-key.ensures in
+    let is : key.number ≡ c.from-number.result = sym (c.from-number.ensures ∙ c.from-2.ensures) in
     let low = f.0 in (
       omega arith,
       c.if-number-end.true,
@@ -32,5 +32,5 @@ pub returns-else-number-end : goal.returns-else-number-end
 returns-else-number-end c =
     let H = holdings c.args.self.now in
     let key = c.in_ok-key.key in
-    let f = subst (λ k. FirstHeld k H (Some key)) c.from_number.ensures.value c.in_ok-key.ensures in
+    let f = subst (λ k. FirstHeld k H (Some key)) c.from.ensures.value c.in_ok-key.ensures in
     between_first_past H c.args.from c.args.end key f (omega arith)

@@ -28,5 +28,5 @@ returns c =
       c.min-size.ensures
           ∙ (ap (λ k. min k c.room.result) c.min.ensures
           ∙ (ap (min (min c.args.most 4096)) c.room.ensures
-          ∙ size_cut c.args.most (length (vec_items c.args.slot_memory)) (length (vec_items c.args.node_memory)) (slots x) (nodes x) z.slots z.nodes)),
+          ∙ size_cut c.args.most (length (vec_items c.args.memory.slots)) (length (vec_items c.args.memory.nodes)) (slots x) (nodes x) z.slots z.nodes)),
     )

@@ -1,42 +1,37 @@
-use Rattle.std.proofs.Common.{vec_items, ap, ◌∙◌, arith}
-use Rattle.page.specs.Keys.{pool_of}
+use Rattle.std.proofs.Common.{ℕ, List, refl, ap, ◌∙◌, subst, arith}
+use Rattle.std.proofs.lemmas.List.{length-set, get_or-replicate}
+use Rattle.backend.specs.Victims.{pool_size}
 use Rattle.held.specs.Holdings.{keys}
 use Rattle.held.specs.View.{holdings}
+use Rattle.held.specs.Walks.{keys_left}
 use Rattle.held.proofs.Counts.{pool_few}
-use Rattle.held.proofs.Facts.{whole, keys_few}
-use Rattle.held.proofs.Walking.{oldest_read, counting_start, counting_place, counting_room, counting_step}
+use Rattle.held.proofs.Facts.{keys_few}
+use Rattle.held.proofs.PoolSizes.{Sums, size_room, size_step, all_counted}
 use Rattle.held.proofs.held.Held.pool_sizes.Goals as goal
 
-pub index-requires : goal.index-requires
-index-requires c =
-    let h = c.args.self.now in
-    let v = h.table.ok.0 in
-    omega (arith, (whole h).long)
-
-pub loop-left-init : goal.loop-left-init
-loop-left-init c = let h = c.args.self.now in counting_start h c.index.result.now.newer (oldest_read h c.index.result.now c.index.ensures)
-
-pub key_at-requires : goal.key_at-requires
-key_at-requires c =
-    let h = c.args.self.now in
-    let v = h.table.ok.0 in
-    omega (arith, (whole h).long, counting_place (vec_items h.table) h.size c.loop-left.place c.loop-left.left (keys (holdings h)) c.loop-left.sizes c.loop-left.invariant (omega arith))
+pub loop-key-init : goal.loop-key-init
+loop-key-init c =
+    let ks = keys (holdings c.args.self.now) in
+    let here = ap keys_left c.into_iter-key-iterator.ensures.into_iter_gives ∙ c.keys-key-items.ensures in
+    (refl, λ p l. omega (arith, get_or-replicate {A = ℕ} 16 p 0 0 l, ap (λ xs. pool_size xs p) here))
 
 pub overflow_add-sizes : goal.overflow_add-sizes
 overflow_add-sizes c =
-    let h = c.args.self.now in
-    let ks = keys (holdings h) in
-    let pool = c.pool-pool.ensures ∙ ap pool_of (c.from_number.ensures.value ∙ c.key_at.ensures) in
-    omega (arith, counting_room (vec_items h.table) h.size c.loop-left.place c.loop-left.left ks c.loop-left.sizes c.loop-left.invariant (omega arith) c.pool-pool.result pool, pool_few ks c.pool-pool.result (keys_few h))
+    let ks = keys (holdings c.args.self.now) in
+    let k = c.in-Some.key.number in
+    let is = c.from.ensures ∙ c.pool.ensures in
+    let sums = subst (λ (xs : List ℕ). Sums c.loop-key.sizes xs ks) c.in-Some.ensures.steps c.loop-key.invariant.1 in
+    omega (arith, size_room k (keys_left c.next.new.self) ks c.loop-key.sizes c.loop-key.invariant.0 c.from.result is (omega (arith, is)) sums, pool_few ks c.from.result (keys_few c.args.self.now))
 
-pub newer_than-place-requires : goal.newer_than-place-requires
-newer_than-place-requires c =
-    let h = c.args.self.now in
-    let v = h.table.ok.0 in
-    omega (arith, (whole h).long, counting_place (vec_items h.table) h.size c.loop-left.place c.loop-left.left (keys (holdings h)) c.loop-left.sizes c.loop-left.invariant (omega arith))
+pub loop-key-preserved : goal.loop-key-preserved
+loop-key-preserved c =
+    let ks = keys (holdings c.args.self.now) in
+    let k = c.in-Some.key.number in
+    let is = c.from.ensures ∙ c.pool.ensures in
+    let sums = subst (λ (xs : List ℕ). Sums c.loop-key.sizes xs ks) c.in-Some.ensures.steps c.loop-key.invariant.1 in (
+      length-set c.loop-key.sizes c.from.result _ ∙ c.loop-key.invariant.0,
+      size_step k (keys_left c.next.new.self) ks c.loop-key.sizes c.loop-key.invariant.0 c.from.result is (omega (arith, is)) sums,
+    )
 
-pub loop-left-preserved : goal.loop-left-preserved
-loop-left-preserved c =
-    let h = c.args.self.now in
-    let pool = c.pool-pool.ensures ∙ ap pool_of (c.from_number.ensures.value ∙ c.key_at.ensures) in
-    counting_step (vec_items h.table) h.size c.loop-left.place c.loop-left.left (keys (holdings h)) c.loop-left.sizes c.loop-left.invariant (omega arith) c.pool-pool.result c.newer_than-place.result pool c.newer_than-place.ensures
+pub returns : goal.returns
+returns c = all_counted c.loop-key.sizes (keys (holdings c.args.self.now)) (subst (λ (xs : List ℕ). Sums c.loop-key.sizes xs (keys (holdings c.args.self.now))) c.in-None.ensures.steps.0 c.loop-key.invariant.1)

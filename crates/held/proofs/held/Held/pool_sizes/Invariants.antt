@@ -1,11 +1,9 @@
-use Rattle.std.proofs.Common.{vec_items}
+use Rattle.std.proofs.Common.{◌≡◌, length}
 use Rattle.held.specs.Holdings.{keys}
 use Rattle.held.specs.View.{holdings}
-use Rattle.held.specs.Walks.{Counting}
+use Rattle.held.specs.Walks.{keys_left}
+use Rattle.held.proofs.PoolSizes.{Sums}
 use Rattle.held.proofs.held.Held.pool_sizes.Given as goal
 
-abbrev pub invariant-loop-left : goal.invariant-loop-left
-invariant-loop-left l = Counting (vec_items l.self.table) l.self.size l.place l.left (keys (holdings l.self)) l.sizes
-
-abbrev pub decreases-loop-left : goal.decreases-loop-left
-decreases-loop-left l = l.left
+abbrev pub invariant-loop-key : goal.invariant-loop-key
+invariant-loop-key l = (length l.sizes ≡ 16) × Sums l.sizes (keys_left l.key-iterator) (keys (holdings l.self))
