@@ -12,7 +12,7 @@ use Rattle.local.specs.declared.pages.LocalPages.{LocalPages}
 
 pub record NewLocal (label : ℕ) (bytes : List ℕ) (slots nodes : ℕ) (b : Store LocalPages) : Type 0 where
   pub new : New (list_rules local_lack) (store_state local_fixed local_entries b)
-  pub labelled : b.label ≡ label
+  pub labelled : b.account.label ≡ label
   -- how many pages it can hold, and its page bytes, which are as they were given
   pub size : size_of b.pages.held ≡ capacity (length bytes) slots nodes
   pub bytes_are : area_of b.pages.memory ≡ bytes

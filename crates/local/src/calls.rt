@@ -8,36 +8,34 @@ ghost use Rattle.local.specs.Kept.{tidy_pages};
 
 use crate::pages::LocalPages;
 use held::Held;
-use index::{Node, Slot};
+use index::IndexMemory;
 use page::{Key, PAGE_BYTES, PageMemory};
 use std::alloc::{AllocError, Global};
 use store::HeldPages;
 
 impl LocalPages {
-    /// No pages yet, in the page bytes given, as they are, with an index over the nodes and slots given. Only want of memory for
+    /// No pages yet, in the page bytes given, as they are, with an index over the memory given. Only want of memory for
     /// the order of the pages refuses it.
     pub fn new(
         heap: Global,
         bytes: Vec<u8>,
-        nodes: Vec<Node>,
-        slots: Vec<Slot<u16>>,
+        index: IndexMemory<u16>,
     ) -> Result<LocalPages, AllocError>
-        ensures { IfOk result (λ b. (local_entries b ≡ []) × (size_of b.held ≡ capacity (length bytes.items) (length slots.items) (length nodes.items)) × (b.memory.bytes ≡ bytes)) }
+        ensures { IfOk result (λ b. (local_entries b ≡ []) × (size_of b.held ≡ capacity (length bytes.items) (length index.slots.items) (length index.nodes.items)) × (b.memory.bytes ≡ bytes)) }
     {
         let memory = PageMemory::new(bytes);
-        let held = Held::new(heap, memory.pages(), nodes, slots)?;
+        let held = Held::new(heap, memory.pages(), index)?;
         Ok(LocalPages { held, memory })
     }
 
-    /// Gives the page bytes and the index's nodes and slots back.
-    pub fn into_parts(self) -> (Vec<u8>, Vec<Node>, Vec<Slot<u16>>)
+    /// Gives the page bytes and the index's memory back.
+    pub fn into_parts(self) -> (Vec<u8>, IndexMemory<u16>)
         ensures bytes { result.0 ≡ self.memory.bytes }
-        ensures nodes { result.1 ≡ self.held.index.tree.nodes }
-        ensures slots { result.2 ≡ self.held.index.tree.slots }
+        ensures nodes { result.1.nodes ≡ self.held.index.tree.nodes }
+        ensures slots { result.1.slots ≡ self.held.index.tree.slots }
     {
         let LocalPages { held, memory } = self;
-        let (nodes, slots) = held.into_parts();
-        (memory.into_bytes(), nodes, slots)
+        (memory.into_bytes(), held.into_memory())
     }
 }
 
@@ -58,10 +56,10 @@ impl HeldPages for LocalPages {
         if page.len() != PAGE_BYTES {
             return false;
         }
-        match self.held.push(key) {
-            Some(place) => self.memory.write(place as usize, page).is_ok(),
-            None => false,
-        }
+        let Some(place) = self.held.push(key) else {
+            return false;
+        };
+        self.memory.write(usize::from(place), page).is_ok()
     }
 
     fn remove(&mut self, key: Key) {
@@ -69,10 +67,10 @@ impl HeldPages for LocalPages {
     }
 
     fn read(&self, key: Key, out: &mut [u8]) -> bool {
-        match self.held.find(key) {
-            Some(place) => self.memory.read(place as usize, out).is_ok(),
-            None => false,
-        }
+        let Some(place) = self.held.find(key) else {
+            return false;
+        };
+        self.memory.read(usize::from(place), out).is_ok()
     }
 
     fn take(&mut self, key: Key, out: &mut [u8]) -> bool {
@@ -80,10 +78,10 @@ impl HeldPages for LocalPages {
             return false;
         }
         // a freed place keeps its bytes until it is used again
-        match self.held.remove(key) {
-            Some(place) => self.memory.read(place as usize, out).is_ok(),
-            None => false,
-        }
+        let Some(place) = self.held.remove(key) else {
+            return false;
+        };
+        self.memory.read(usize::from(place), out).is_ok()
     }
 
     fn holds(&self, key: Key) -> bool {

@@ -1,4 +1,4 @@
-use Rattle.std.proofs.Common.{◌<◌, sym, ◌∙◌, arith}
+use Rattle.std.proofs.Common.{◌<◌, Some, sym, ap, ◌∙◌, arith}
 use Rattle.page.specs.Memory.{area_of, page_at}
 use Rattle.held.specs.View.{holdings, size_of}
 use Rattle.held.proofs.Entries.{missed, place_taken}
@@ -6,18 +6,18 @@ use Rattle.held.proofs.Facts.{places_below}
 use Rattle.local.specs.Kept.{read_found}
 use Rattle.local.proofs.calls.LocalPagesHeldPages.read.Goals as goal
 
-pub returns-in-Some : goal.returns-in-Some
-returns-in-Some c =
+pub returns : goal.returns
+returns c =
     let b = c.args.self.now in
     let k = c.args.key.number in
-    let p = c.in-Some.place in
-    let at = sym c.in-Some.ensures in
+    let p = c.from.result in
+    let at = sym c.in-Some.ensures ∙ ap Some (sym c.from.ensures) in
     let below = place_taken (λ q. q < size_of b.held) k p (holdings b.held) (places_below b.held) at in
     let found = read_found (area_of b.memory) (holdings b.held) k c.args.out.now p c.read.result at (omega (arith, below, b.fits)) c.read.ensures.answer in
     record { answer = c.is_ok.ensures.value ∙ found.0; buffer = c.read.ensures.out ∙ found.1 }
 
-pub returns-in-None : goal.returns-in-None
-returns-in-None c =
+pub returns-in_default : goal.returns-in_default
+returns-in_default c =
     let b = c.args.self.now in
-    let none = missed (page_at (area_of b.memory)) c.args.key.number (holdings b.held) c.args.out.now (sym c.in-None.ensures) in
+    let none = missed (page_at (area_of b.memory)) c.args.key.number (holdings b.held) c.args.out.now (sym c.in_default.ensures) in
     record { answer = none.0; buffer = none.1 }

@@ -1,4 +1,4 @@
-use Rattle.std.proofs.Common.{ℕ, ◌<◌, ◌∷◌, drop, sym, ap, ◌∙◌, arith, eq-eqb}
+use Rattle.std.proofs.Common.{ℕ, ◌<◌, Some, ◌∷◌, drop, sym, ap, ◌∙◌, arith, eq-eqb}
 use Rattle.std.proofs.lemmas.Bool.{cond-true}
 use Rattle.page.specs.Memory.{area_of, page_at, start_of}
 use Rattle.backend.specs.Outcomes.{is_page}
@@ -9,17 +9,17 @@ use Rattle.held.proofs.Facts.{places_below}
 use Rattle.local.specs.Kept.{read_found}
 use Rattle.local.proofs.calls.LocalPagesHeldPages.take.Goals as goal
 
-pub returns-in-Some : goal.returns-in-Some
-returns-in-Some c =
+pub returns : goal.returns
+returns c =
     let b = c.args.self.now in
     let area = area_of b.memory in
     let H = holdings b.held in
     let k = c.args.key.number in
-    let p = c.in-Some.place in
+    let p = c.from.result in
     let out = c.args.out.now in
     let page = eq-eqb _ _ c.if-out-ne-PAGE_BYTES.false in
     let m = c.remove.ensures in
-    let at = sym c.in-Some.ensures.value in
+    let at = sym c.in-Some.ensures.value ∙ ap Some (sym c.from.ensures) in
     let below = place_taken (λ q. q < size_of b.held) k p H (places_below b.held) at in
     let found = read_found area H k out p c.read.result at (omega (arith, below, b.fits)) c.read.ensures.answer in
     record {
@@ -29,8 +29,8 @@ returns-in-Some c =
       fixed = ap (λ (n : ℕ). n ∷ drop (start_of n) area) m.size;
     }
 
-pub returns-in-None : goal.returns-in-None
-returns-in-None c =
+pub returns-in_default : goal.returns-in_default
+returns-in_default c =
     let b = c.args.self.now in
     let area = area_of b.memory in
     let H = holdings b.held in
@@ -38,7 +38,7 @@ returns-in-None c =
     let out = c.args.out.now in
     let page = eq-eqb _ _ c.if-out-ne-PAGE_BYTES.false in
     let m = c.remove.ensures in
-    let none = missed (page_at area) k H out (sym c.in-None.ensures.value) in
+    let none = missed (page_at area) k H out (sym c.in_default.ensures.value) in
     record {
       answer = none.0;
       buffer = none.1;
