@@ -1,7 +1,7 @@
 //! The second level: evicted pages kept in spare memory, under a limit for each pool.
-use crate::tour::{drop_object, drop_page, drop_pool, get, key, print_holdings, put, put_short};
+use crate::tour::{Tour, key};
 use backend::Backend;
-use index::{Node, Slot};
+use index::IndexMemory;
 use layers::Quota;
 use local::new_local;
 use page::PAGE_BYTES;
@@ -12,43 +12,45 @@ const SLOTS: usize = 64;
 const LIMIT: u32 = 8;
 
 // Offers a page more than the pool's limit.
-fn fill<B: Backend>(rt: &HostRuntime, pile: &mut B, pool: u32) -> anyhow::Result<()> {
-    for index in 0..LIMIT + 1 {
-        put(rt, pile, key(pool, index % 2, index), index as u8)?;
+fn fill<B: Backend>(tour: &mut Tour<'_, B>, pool: u32) -> anyhow::Result<()> {
+    for index in 0..=LIMIT {
+        tour.put(key(pool, index % 2, index), index as u8)?;
     }
-    print_holdings(rt, pile)?;
+    tour.print_holdings()?;
     Ok(())
 }
 
-fn refusals<B: Backend>(rt: &HostRuntime, pile: &mut B) -> anyhow::Result<()> {
+fn refusals<B: Backend>(tour: &mut Tour<'_, B>) -> anyhow::Result<()> {
+    let rt = tour.rt;
     println!(rt; "A pool that holds its limit:")?;
-    fill(rt, pile, 0)?;
+    fill(tour, 0)?;
     println!(rt; "Persistent pages drive ephemeral ones out:")?;
     for half in 0..8u32 {
-        fill(rt, pile, 2 * half + 1)?;
+        fill(tour, 2 * half + 1)?;
     }
     println!(rt; "No place is free, and no page gives way:")?;
-    put(rt, pile, key(0, 0, 0), 100)?;
-    put(rt, pile, key(1, 0, 0), 101)?;
+    tour.put(key(0, 0, 0), 100)?;
+    tour.put(key(1, 0, 0), 101)?;
     println!(rt; "No page:")?;
-    put_short(rt, pile, key(1, 0, 0))?;
-    print_holdings(rt, pile)?;
+    tour.put_short(key(1, 0, 0))?;
+    tour.print_holdings()?;
     Ok(())
 }
 
-fn gets_and_drops<B: Backend>(rt: &HostRuntime, pile: &mut B) -> anyhow::Result<()> {
+fn gets_and_drops<B: Backend>(tour: &mut Tour<'_, B>) -> anyhow::Result<()> {
+    let rt = tour.rt;
     println!(rt; "Gets and drops:")?;
-    get(rt, pile, key(1, 0, 0))?;
-    get(rt, pile, key(1, 0, 0))?;
-    drop_pool(rt, pile, key(3, 0, 0))?;
-    put(rt, pile, key(2, 0, 0), 102)?;
-    print_holdings(rt, pile)?;
-    get(rt, pile, key(2, 0, 0))?;
-    get(rt, pile, key(2, 0, 0))?;
-    drop_object(rt, pile, key(5, 1, 0))?;
-    drop_page(rt, pile, key(5, 0, 2))?;
-    print_holdings(rt, pile)?;
-    let offers = pile.offers();
+    tour.get(key(1, 0, 0))?;
+    tour.get(key(1, 0, 0))?;
+    tour.drop_pool(key(3, 0, 0))?;
+    tour.put(key(2, 0, 0), 102)?;
+    tour.print_holdings()?;
+    tour.get(key(2, 0, 0))?;
+    tour.get(key(2, 0, 0))?;
+    tour.drop_object(key(5, 1, 0))?;
+    tour.drop_page(key(5, 0, 2))?;
+    tour.print_holdings()?;
+    let offers = tour.pile.offers();
     println!(rt; "offers {offers}")?;
     Ok(())
 }
@@ -57,10 +59,10 @@ fn gets_and_drops<B: Backend>(rt: &HostRuntime, pile: &mut B) -> anyhow::Result<
 pub fn show(rt: &HostRuntime, heap: Global) -> anyhow::Result<()> {
     println!(rt; "Level 2: quota over local, {SLOTS} slots, limits {LIMIT}")?;
     let bytes = vec![in heap; 0; SLOTS * PAGE_BYTES]?;
-    let nodes = vec![in heap; Node::BLANK; 7 * SLOTS + 1]?;
-    let slots = vec![in heap; Slot::new(0u16); SLOTS]?;
-    let local = new_local(heap, 2, bytes, nodes, slots)?;
-    let mut pile = Quota::new(1, [LIMIT; 16], local);
-    refusals(rt, &mut pile)?;
-    gets_and_drops(rt, &mut pile)
+    let index = IndexMemory::new(heap, 7 * SLOTS + 1, SLOTS, 0u16)?;
+    let local = new_local(heap, 2, bytes, index)?;
+    let pile = Quota::new(1, [LIMIT; 16], local);
+    let mut tour = Tour { rt, pile };
+    refusals(&mut tour)?;
+    gets_and_drops(&mut tour)
 }

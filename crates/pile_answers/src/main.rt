@@ -4,35 +4,42 @@
 use backend::{Backend, Nothing, Refusal, move_page};
 use layers::{Divider, Quota};
 use page::{Key, PAGE_BYTES};
-use std::io;
+use std::{fmt, io};
 
-fn print_put(rt: &HostRuntime, answer: Result<(), Refusal>) -> io::Result<()> {
-    match answer {
-        Ok(()) => println!(rt; "put: accepted"),
-        Err(refusal) => println!(rt; "put: refused, {refusal}"),
+// An answer in words.
+#[derive(Drop)]
+struct Answer<T>(Result<T, Refusal>);
+
+impl fmt::Display for Answer<()> {
+    fn fmt<W: fmt::Write>(&self, f: &mut fmt::Formatter<W>) -> fmt::Result {
+        match self.0 {
+            Ok(()) => write!(f, "accepted"),
+            Err(refusal) => write!(f, "refused, {refusal}"),
+        }
     }
 }
 
-fn print_found(rt: &HostRuntime, call: &str, answer: Result<bool, Refusal>) -> io::Result<()> {
-    match answer {
-        Ok(true) => println!(rt; "{call}: found"),
-        Ok(false) => println!(rt; "{call}: not found"),
-        Err(refusal) => println!(rt; "{call}: refused, {refusal}"),
+impl fmt::Display for Answer<bool> {
+    fn fmt<W: fmt::Write>(&self, f: &mut fmt::Formatter<W>) -> fmt::Result {
+        match self.0 {
+            Ok(true) => write!(f, "found"),
+            Ok(false) => write!(f, "not found"),
+            Err(refusal) => write!(f, "refused, {refusal}"),
+        }
     }
 }
 
 fn print_answers<B: Backend>(rt: &HostRuntime, pile: &mut B, key: Key) -> io::Result<()> {
-    let number = key.number();
     let pool = key.pool();
-    println!(rt; "key {number}, pool {pool}")?;
+    println!(rt; "key {key}, pool {pool}")?;
 
     let mut page = [1; PAGE_BYTES];
     let mut short = [1; PAGE_BYTES - 1];
-    print_put(rt, pile.put(key, &page))?;
-    print_put(rt, pile.put(key, &short))?;
-    print_found(rt, "get", pile.get(key, &mut page))?;
-    print_found(rt, "get", pile.get(key, &mut short))?;
-    print_found(rt, "move", move_page(pile, key, key))?;
+    println!(rt; "put: {}", Answer(pile.put(key, &page)))?;
+    println!(rt; "put: {}", Answer(pile.put(key, &short)))?;
+    println!(rt; "get: {}", Answer(pile.get(key, &mut page)))?;
+    println!(rt; "get: {}", Answer(pile.get(key, &mut short)))?;
+    println!(rt; "move: {}", Answer(move_page(pile, key, key)))?;
 
     pile.drop_page(key);
     pile.drop_object(key);
@@ -49,7 +56,7 @@ fn main(rt: HostRuntime) -> io::Result<()> {
     let sides = Divider::new(200, Nothing::new(300), Nothing::new(301));
     let mut pile = Quota::new(100, limits, sides);
     for pool in 0..4 {
-        print_answers(&rt, &mut pile, Key::from_number((pool << 28) + 4097))?;
+        print_answers(&rt, &mut pile, Key::from((pool << 28) + 4097))?;
     }
 
     let count = pile.offers();

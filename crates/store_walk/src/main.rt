@@ -5,18 +5,19 @@
 mod plain;
 
 use backend::{Backend, Refusal};
-use contents::ContentRecord;
+use contents::ContentsMemory;
 use dedup::new_dedup;
-use index::{Node, Slot};
+use index::IndexMemory;
 use local::new_local;
 use page::{Key, PAGE_BYTES};
 use plain::{Plain, Reach};
+use shuffle::Shuffled;
 use std::alloc::Global;
 use store::HeldPages;
 
-const STEPS: u32 = 6000;
+const STEPS: usize = 6000;
 
-#[derive(Clone, Copy, Drop)]
+#[derive(Clone, Copy, Default)]
 struct Counts {
     accepted: u32,
     refused: u32,
@@ -26,15 +27,16 @@ struct Counts {
     wrong: u32,
 }
 
-// The next of a row of pseudo-random numbers.
-fn shuffled(seed: u32) -> u32 {
-    let a = seed ^ (seed << 13);
-    let b = a ^ (a >> 17);
-    b ^ (b << 5)
+// A store, the plain list beside it, and what was counted so far.
+#[derive(Drop)]
+struct Walk<B> {
+    store: B,
+    plain: Plain,
+    counts: Counts,
 }
 
 // One of a few dozen keys of five pools, two objects in each; most are ephemeral.
-fn key_from(seed: u32) -> u32 {
+fn key_from(seed: u32) -> Key {
     let pool = match (seed >> 4) & 7 {
         0 | 1 => 0,
         2 | 3 => 2,
@@ -42,119 +44,93 @@ fn key_from(seed: u32) -> u32 {
         6 => 1,
         _ => 3,
     };
-    (pool << 28) | ((seed & 1) << 12) | ((seed >> 1) & 3)
+    Key::from((pool << 28) | ((seed & 1) << 12) | ((seed >> 1) & 3))
 }
 
 // The byte that fills the page, or none where its bytes differ.
 fn filling(page: &[u8]) -> Option<u8> {
     let first = page.first().copied()?;
-    for byte in page {
-        if *byte != first {
-            return None;
+    if page.iter().all(|byte| *byte == first) {
+        Some(first)
+    } else {
+        None
+    }
+}
+
+impl<B: Backend> Walk<B> {
+    fn compare(&mut self, same: bool) {
+        if !same {
+            self.counts.wrong = self.counts.wrong.saturating_add(1);
         }
     }
-    Some(first)
-}
 
-fn one_if(wrong: bool) -> u32 {
-    if wrong { 1 } else { 0 }
-}
-
-fn put<B: Backend>(
-    store: &mut B,
-    plain: &mut Plain,
-    key: Key,
-    byte: u8,
-    counts: &mut Counts,
-) -> anyhow::Result<()> {
-    let accepted = store.put(key, &[byte; PAGE_BYTES]).is_ok();
-    if accepted {
-        counts.accepted = counts.accepted.saturating_add(1);
-    } else {
-        counts.refused = counts.refused.saturating_add(1);
+    fn put(&mut self, key: Key, byte: u8) -> anyhow::Result<()> {
+        let accepted = self.store.put(key, &[byte; PAGE_BYTES]).is_ok();
+        if accepted {
+            self.counts.accepted = self.counts.accepted.saturating_add(1);
+        } else {
+            self.counts.refused = self.counts.refused.saturating_add(1);
+        }
+        let expected = self.plain.put(u32::from(key), byte)?;
+        self.compare(accepted == expected);
+        Ok(())
     }
-    let expected = plain.put(key.number(), byte)?;
-    counts.wrong = counts.wrong.saturating_add(one_if(accepted != expected));
-    Ok(())
-}
 
-fn got<B: Backend>(store: &mut B, key: Key) -> Result<Option<u8>, Refusal> {
-    let mut page = [0; PAGE_BYTES];
-    if store.get(key, &mut page)? {
-        return Ok(filling(&page));
+    fn got(&mut self, key: Key) -> Result<Option<u8>, Refusal> {
+        let mut page = [0; PAGE_BYTES];
+        let found = self.store.get(key, &mut page)?;
+        Ok(if found { filling(&page) } else { None })
     }
-    Ok(None)
-}
 
-fn get<B: Backend>(store: &mut B, plain: &mut Plain, key: Key, counts: &mut Counts) {
-    let answer = match got(store, key) {
-        Ok(found) => found,
-        Err(_) => None,
-    };
-    match answer {
-        Some(_) => counts.found = counts.found.saturating_add(1),
-        None => counts.missed = counts.missed.saturating_add(1),
+    fn get(&mut self, key: Key) {
+        let answer = self.got(key).ok().flatten();
+        if answer.is_some() {
+            self.counts.found = self.counts.found.saturating_add(1);
+        } else {
+            self.counts.missed = self.counts.missed.saturating_add(1);
+        }
+        let expected = self.plain.get(u32::from(key));
+        self.compare(answer == expected);
     }
-    let expected = plain.get(key.number());
-    counts.wrong = counts.wrong.saturating_add(one_if(answer != expected));
-}
 
-fn drop_some<B: Backend>(
-    store: &mut B,
-    plain: &mut Plain,
-    key: Key,
-    reach: Reach,
-    counts: &mut Counts,
-) {
-    match reach {
-        Reach::Page => store.drop_page(key),
-        Reach::Object => store.drop_object(key),
-        Reach::Pool => store.drop_pool(key),
+    fn drop_all(&mut self, key: Key, reach: Reach) {
+        // the interface has a call of its own for each reach
+        match reach {
+            Reach::Page => self.store.drop_page(key),
+            Reach::Object => self.store.drop_object(key),
+            Reach::Pool => self.store.drop_pool(key),
+        }
+        self.plain.drop_all(u32::from(key), reach);
+        self.counts.dropped = self.counts.dropped.saturating_add(1);
     }
-    plain.drop_all(key.number(), reach);
-    counts.dropped = counts.dropped.saturating_add(1);
-}
 
-// The same questions to both.
-fn compare<B: Backend>(store: &mut B, plain: &Plain, key: Key, counts: &mut Counts) {
-    let holds = store.holds(key) != plain.page(key.number()).is_some();
-    let pages = store.pool_pages(key.pool()) != plain.pool_pages(key.pool() as u32);
-    counts.wrong = counts.wrong.saturating_add(one_if(holds || pages));
-}
-
-fn step<B: Backend>(
-    store: &mut B,
-    plain: &mut Plain,
-    seed: u32,
-    counts: &mut Counts,
-) -> anyhow::Result<()> {
-    let key = Key::from_number(key_from(seed >> 8));
-    match seed & 31 {
-        0 => drop_some(store, plain, key, Reach::Pool, counts),
-        1 => drop_some(store, plain, key, Reach::Object, counts),
-        2 | 3 => drop_some(store, plain, key, Reach::Page, counts),
-        4..=11 => get(store, plain, key, counts),
-        _ => put(store, plain, key, ((seed >> 5) & 3) as u8, counts)?,
+    // The same questions to both.
+    fn ask(&mut self, key: Key) {
+        let pool = key.pool();
+        let holds = self.store.holds(key) == self.plain.page(u32::from(key)).is_some();
+        let pages = self.store.pool_pages(pool) as usize == self.plain.pool_pages(u32::from(pool));
+        self.compare(holds && pages);
     }
-    compare(store, plain, Key::from_number(key_from(seed >> 16)), counts);
-    Ok(())
-}
 
-fn walk<B: Backend>(store: &mut B, plain: &mut Plain) -> anyhow::Result<Counts> {
-    let mut counts = Counts {
-        accepted: 0,
-        refused: 0,
-        found: 0,
-        missed: 0,
-        dropped: 0,
-        wrong: 0,
-    };
-    let mut seed = 2463534242;
-    for _ in 0..STEPS {
-        seed = shuffled(seed);
-        step(store, plain, seed, &mut counts)?;
+    fn step(&mut self, seed: u32) -> anyhow::Result<()> {
+        let key = key_from(seed >> 8);
+        match seed & 31 {
+            0 => self.drop_all(key, Reach::Pool),
+            1 => self.drop_all(key, Reach::Object),
+            2 | 3 => self.drop_all(key, Reach::Page),
+            4..=11 => self.get(key),
+            _ => self.put(key, ((seed >> 5) & 3) as u8)?,
+        }
+        self.ask(key_from(seed >> 16));
+        Ok(())
     }
-    Ok(counts)
+
+    fn run(&mut self) -> anyhow::Result<()> {
+        for seed in Shuffled::new(2463534242).take(STEPS) {
+            self.step(seed)?;
+        }
+        Ok(())
+    }
 }
 
 fn print_counts(rt: &HostRuntime, name: &str, counts: Counts) -> anyhow::Result<()> {
@@ -175,13 +151,15 @@ fn print_counts(rt: &HostRuntime, name: &str, counts: Counts) -> anyhow::Result<
 
 fn walk_local(rt: &HostRuntime, heap: Global, places: usize) -> anyhow::Result<()> {
     let bytes = vec![in heap; 0; 6 * PAGE_BYTES + 100]?;
-    let nodes = vec![in heap; Node::BLANK; 100]?;
-    let slots = vec![in heap; Slot::new(0u16); places]?;
-    let mut store = new_local(heap, 1, bytes, nodes, slots)?;
-    // the pages of the walk are of four kinds at most
-    let mut plain = Plain::new(heap, places, 4);
-    let counts = walk(&mut store, &mut plain)?;
-    print_counts(rt, "local", counts)
+    let index = IndexMemory::new(heap, 100, places, 0u16)?;
+    let mut walk = Walk {
+        store: new_local(heap, 1, bytes, index)?,
+        // the pages of the walk are of four kinds at most
+        plain: Plain::new(heap, places, 4),
+        counts: Counts::default(),
+    };
+    walk.run()?;
+    print_counts(rt, "local", walk.counts)
 }
 
 fn walk_dedup(
@@ -190,16 +168,17 @@ fn walk_dedup(
     places: usize,
     contents: usize,
 ) -> anyhow::Result<()> {
-    let bytes = vec![in heap; 0; 6 * PAGE_BYTES + 100]?;
-    let records = vec![in heap; ContentRecord::blank(); contents]?;
-    let nodes = vec![in heap; Node::BLANK; 100]?;
-    let slots = vec![in heap; Slot::new(0u16); places]?;
-    let mut store = new_dedup(heap, 1, bytes, records, nodes, slots)?;
-    let mut plain = Plain::new(heap, places, contents);
-    let counts = walk(&mut store, &mut plain)?;
-    print_counts(rt, "deduplicating", counts)?;
-    let (held, different) = store.pages().counts();
-    let (plain_held, plain_different) = plain.counts();
+    let memory = ContentsMemory::new(heap, 6 * PAGE_BYTES + 100, contents)?;
+    let index = IndexMemory::new(heap, 100, places, 0u16)?;
+    let mut walk = Walk {
+        store: new_dedup(heap, 1, memory, index)?,
+        plain: Plain::new(heap, places, contents),
+        counts: Counts::default(),
+    };
+    walk.run()?;
+    print_counts(rt, "deduplicating", walk.counts)?;
+    let (held, different) = walk.store.pages().counts();
+    let (plain_held, plain_different) = walk.plain.counts();
     println!(rt;
         "at the end {held} held, {different} different; plainly {plain_held} and {plain_different}"
     )?;

@@ -1,10 +1,18 @@
-//! The list of held pages, kept plainly by the library's collections, to compare a store with.
+//! The plain list that a store is compared with. A page is filled with one byte, so it is kept as that byte.
 use std::alloc::{AllocError, Global};
 
-/// Keys with the byte that fills their page, oldest put first.
+// A page under its key.
+#[derive(Clone, Copy)]
+struct Entry {
+    key: u32,
+    byte: u8,
+}
+
+/// Each page, oldest put first.
+// A list and no map: it is searched from its oldest page on, as the rule is written.
 #[derive(Drop)]
 pub struct Plain {
-    held: Vec<(u32, u8)>,
+    held: Vec<Entry>,
     places: usize,
     // how many different pages there may be
     contents: usize,
@@ -18,11 +26,14 @@ pub enum Reach {
     Pool,
 }
 
-fn block_of(key: u32, reach: Reach) -> u32 {
-    match reach {
-        Reach::Page => key,
-        Reach::Object => key >> 12,
-        Reach::Pool => key >> 28,
+impl Reach {
+    // Whether a drop of one key takes the other.
+    fn takes(self, key: u32, other: u32) -> bool {
+        match self {
+            Reach::Page => key == other,
+            Reach::Object => key >> 12 == other >> 12,
+            Reach::Pool => key >> 28 == other >> 28,
+        }
     }
 }
 
@@ -35,83 +46,38 @@ impl Plain {
         }
     }
 
-    fn position(&self, key: u32, reach: Reach) -> Option<usize> {
-        for (i, entry) in self.held.iter().enumerate() {
-            if block_of(entry.0, reach) == block_of(key, reach) {
-                return Some(i);
-            }
-        }
-        None
-    }
-
-    fn take_out(&mut self, i: usize) {
-        if i < self.held.len() {
-            let _ = self.held.remove(i);
-        }
-    }
-
     pub fn page(&self, key: u32) -> Option<u8> {
-        for entry in self.held.iter() {
-            if entry.0 == key {
-                return Some(entry.1);
-            }
-        }
-        None
+        let entry = self.held.iter().find(|entry| entry.key == key)?;
+        Some(entry.byte)
     }
 
-    pub fn pool_pages(&self, pool: u32) -> u32 {
-        let mut pages = 0u32;
-        for entry in self.held.iter() {
-            if entry.0 >> 28 == pool {
-                pages = pages.saturating_add(1);
-            }
-        }
-        pages
+    pub fn pool_pages(&self, pool: u32) -> usize {
+        self.held
+            .iter()
+            .filter(|entry| entry.key >> 28 == pool)
+            .count()
     }
 
     pub fn drop_all(&mut self, key: u32, reach: Reach) {
-        for _ in 0..self.held.len() {
-            match self.position(key, reach) {
-                Some(i) => self.take_out(i),
-                None => return,
-            }
-        }
+        self.held.retain(|entry| !reach.takes(key, entry.key));
     }
 
-    // The oldest page of the even pool that holds most; of equal pools, of the lowest.
-    fn victim(&self) -> Option<usize> {
-        let mut fullest = 0;
-        let mut most = 0;
-        for half in 0..8u32 {
-            let pages = self.pool_pages(2 * half);
-            if pages > most {
-                fullest = half;
-                most = pages;
-            }
-        }
-        if most == 0 {
-            return None;
-        }
-        self.position(fullest << 29, Reach::Pool)
+    // The key of the oldest page of the even pool that holds most; of equal pools, of the lowest.
+    fn victim(&self) -> Option<u32> {
+        // the last of several with most pages is taken
+        let fullest = [14, 12, 10, 8, 6, 4, 2, 0]
+            .into_iter()
+            .max_by_key(|pool| self.pool_pages(*pool))?;
+        let oldest = self.held.iter().find(|entry| entry.key >> 28 == fullest)?;
+        Some(oldest.key)
     }
 
     fn has_page(&self, byte: u8) -> bool {
-        for entry in self.held.iter() {
-            if entry.1 == byte {
-                return true;
-            }
-        }
-        false
+        self.held.iter().any(|entry| entry.byte == byte)
     }
 
     fn different(&self) -> usize {
-        let mut different = 0usize;
-        for byte in 0..=255u8 {
-            if self.has_page(byte) {
-                different = different.saturating_add(1);
-            }
-        }
-        different
+        (0..=255u8).filter(|byte| self.has_page(*byte)).count()
     }
 
     fn lacks(&self, byte: u8) -> bool {
@@ -124,22 +90,27 @@ impl Plain {
         (self.held.len(), self.different())
     }
 
+    // Evicts while a place is lacking and an ephemeral page is held.
+    fn make_room(&mut self, byte: u8) {
+        for _ in 0..self.held.len() {
+            if !self.lacks(byte) {
+                return;
+            }
+            let Some(victim) = self.victim() else {
+                return;
+            };
+            self.drop_all(victim, Reach::Page);
+        }
+    }
+
     /// Whether the page was accepted.
     pub fn put(&mut self, key: u32, byte: u8) -> Result<bool, AllocError> {
         self.drop_all(key, Reach::Page);
-        for _ in 0..self.held.len() {
-            if !self.lacks(byte) {
-                break;
-            }
-            match self.victim() {
-                Some(i) => self.take_out(i),
-                None => break,
-            }
-        }
+        self.make_room(byte);
         if self.lacks(byte) {
             return Ok(false);
         }
-        self.held.push((key, byte))?;
+        self.held.push(Entry { key, byte })?;
         Ok(true)
     }
 
