@@ -1,7 +1,7 @@
 //! Taking a key out.
 ghost use Rattle.std.specs.Prelude.{◌≡◌, ℕ, ◌+◌, ◌-◌, ◌*◌, ◌/◌, ◌%◌, ◌^◌, ◌<◌, ◌≤◌, true, false, length, vec_len, MatchBool, MatchOption, slice_set};
 ghost use Rattle.index.specs.Keys.{shares};
-ghost use Rattle.index.specs.Nodes.{path_in, child_in, Masked};
+ghost use Rattle.index.specs.Nodes.{path_in, child_in};
 ghost use Rattle.index.specs.Slots.{marks, mark_in};
 ghost use Rattle.index.specs.Sound.{Sound, heads_of, records_of};
 ghost use Rattle.index.specs.Filing.{Whole, Removed, keys_of, nodes_of, slots_of};
@@ -14,10 +14,9 @@ use super::tree::Tree;
 // Whether the node has no child.
 pub(crate) fn is_empty(nodes: &Vec<Node>, node: u32) -> bool
     requires within { node < vec_len nodes.now }
-    requires masked { Masked nodes.now.items }
     ensures { MatchBool result ((c : ℕ) → c < 16 → child_in nodes.now.items node c ≡ 0) (((c : ℕ) → c < 16 → child_in nodes.now.items node c ≡ 0) → ⊥) }
 {
-    next_child(nodes, node, 0) == 16
+    next_child(nodes, node, 0).is_none()
 }
 
 impl<R: Copy> Tree<R> {

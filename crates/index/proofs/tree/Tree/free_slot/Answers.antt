@@ -41,7 +41,6 @@ returns g c =
     let mk : mark_in hs p % 16 ≡ (2 ^ 32 + c.args.key) % 16 = ap (λ y. y % 16) c.requires.holds in
     let gap : child_in ns' c.slot_parent-up.result ((2 ^ 32 + c.args.key) % 16) ≡ 0 = ap (child_in ns' c.slot_parent-up.result) (sym st) ∙ c.clear_child.ensures.here in
     let g : SlotFreed ns ns' hs hs' p c.args.self.now.vacant = record {
-      masked = c.clear_child.ensures.masked;
       len = c.clear_child.ensures.len;
       paths = c.clear_child.ensures.paths;
       parents = c.clear_child.ensures.parents;

@@ -15,7 +15,6 @@ returns g c =
     let v = c.args.self.now.nodes.ok.0 in
     let g : SlotTaken (vec_items c.args.self.now.nodes) (vec_items c.set_child.new.nodes) (heads_of c.args.self.now) (heads (vec_items c.set_mark.new.slots))
     c.args.node ((2 ^ 32 + c.args.key) % 16) c.free_slot-p.result (2 ^ 32 + c.args.key) = record {
-      masked = c.set_child.ensures.masked;
       len = c.set_child.ensures.len;
       paths = c.set_child.ensures.paths;
       parents = c.set_child.ensures.parents;
