@@ -5,7 +5,7 @@ use Rattle.std.proofs.lemmas.Bool.{cases_lt, cases_eq, cond-false, lt-leb}
 use Rattle.index.specs.declared.tree.Tree.{Tree}
 use Rattle.index.specs.Keys.{parts}
 use Rattle.index.specs.Nodes.{path_in, child_in, free_in, none}
-use Rattle.index.specs.Slots.{marks, mark_in, slot_free_in, no_head}
+use Rattle.index.specs.Slots.{marks, mark_in, slot_free_in, no_head, key_mark}
 use Rattle.index.specs.Sound.{path_at, Sound, heads_of, filed}
 use Rattle.index.specs.Filing.{Whole, keys_of, nodes_of, slots_of}
 use Rattle.index.proofs.Below.{path_node, path_slot, marks_at}
@@ -29,7 +29,7 @@ pub fresh : {R : Type 0} (t : Tree R) → nodes_of t + slots_of t < 2 ^ 32 → t
 fresh t fits f v root paths children frees ms vs =
     let ns = vec_items t.nodes in
     let hs = heads_of t in
-    let mark0 : (p : ℕ) → mark_in hs p ≡ 0 = λ p. ⊎_elim (λ (l : p < length hs). ms p l) (λ (l : length hs ≤ p). ap (λ x. x.mark) (get_or_past hs p no_head l)) (cases_lt p (length hs)) in
+    let mark0 : (p : ℕ) → mark_in hs p ≡ 0 = λ p. ⊎_elim (λ (l : p < length hs). ms p l) (λ (l : length hs ≤ p). ap (λ x. key_mark x.key) (get_or_past hs p no_head l)) (cases_lt p (length hs)) in
     let child0 : (j c : ℕ) → c < 16 → child_in ns j c ≡ 0 = λ j c cl. ⊎_elim (λ (l : j < length ns). children j c l cl) (λ (l : length ns ≤ j). ap (λ x. get_or x.children.items c 0) (get_or_past ns j none l)) (cases_lt j (length ns)) in
     let path0 : (j : ℕ) → (j ≡ 0 → ⊥) → path_at ns hs j ≡ 0 = λ j ne. ⊎_elim (λ (l : j < length ns). path_node ns hs j l ∙ paths j l ne) (λ (l : length ns ≤ j). path_slot ns hs j l ∙ mark0 (j - length ns)) (cases_lt j (length ns)) in
     let k0 : keys_of t ≡ [] = filed_none (marks hs) (λ p. marks_at hs p ∙ mark0 p) in

@@ -37,7 +37,7 @@ fn clear_slot<R: Copy>(slots: &mut Vec<Slot<R>>, i: usize, free: u32)
     ensures len { length (heads slots.new.items) ≡ length (heads slots.old.items) }
 {
     slots[i].head = Head {
-        mark: 0,
+        key: None,
         parent: 0,
         free,
     };

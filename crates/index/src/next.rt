@@ -4,9 +4,9 @@ ghost use Rattle.index.specs.Nexts.{Ahead, Past, First};
 ghost use Rattle.index.specs.Sound.{Sound, heads_of};
 ghost use Rattle.index.specs.Descents.{Descended};
 
-use super::descend::{End, FILED, step};
+use super::descend::{End, step};
 use super::node::{child, next_child, parent, path};
-use super::slot::mark;
+use super::slot::key_in;
 use super::tree::Tree;
 
 impl<R: Copy> Tree<R> {
@@ -52,6 +52,6 @@ impl<R: Copy> Tree<R> {
             item = child(&self.nodes, item, first);
         }
         let slot = item - self.nodes.len() as u32;
-        Some((mark(&self.slots, slot) - FILED) as u32)
+        key_in(&self.slots, slot)
     }
 }

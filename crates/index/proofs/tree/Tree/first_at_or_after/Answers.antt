@@ -1,9 +1,10 @@
+use Rattle.std.proofs.Common.{◌^◌, ◌≤◌}
 use Rattle.std.proofs.Common.{◌≡◌, ℕ, suc, ◌+◌, ◌-◌, ◌<◌, length, vec_items, vec_len, sym, refl, ◌∙◌, subst, arith}
 use Rattle.std.proofs.Common.{false, zero, Option, None, Some}
 use Rattle.std.specs.Prelude.{◌==◌}
 use Rattle.std.specs.Option.{IsSome, MatchOption}
-use Rattle.index.specs.Nexts.{Ahead}
-use Rattle.index.specs.Slots.{marks}
+use Rattle.index.specs.Nexts.{Ahead, First}
+use Rattle.index.specs.Slots.{key_mark, marks}
 use Rattle.index.specs.Sound.{heads_of}
 use Rattle.index.proofs.Below.{end_found, marks_at}
 use Rattle.index.proofs.Keys.{filed_has}
@@ -17,6 +18,10 @@ not_empty (suc n) e = omega arith
 some_where : (P : Type 0) (Q : ℕ → Type 0) (o : Option ℕ) → MatchOption o P Q → (P → ⊥) → IsSome o
 some_where P Q None p n = absurd (n p)
 some_where P Q (Some x) p n = refl
+
+found : (o : Option ℕ) → 2 ^ 32 ≤ key_mark o → (P : Type 0) (Q : ℕ → Type 0) → Q (key_mark o - 2 ^ 32) → MatchOption o P Q
+found None l P Q q = absurd (omega arith)
+found (Some k) l P Q q = subst Q (let e : 2 ^ 32 + k - 2 ^ 32 ≡ k = omega arith in e) q
 
 pub returns-then-end-eq0 : goal.returns-then-end-eq0
 returns-then-end-eq0 g c =
@@ -67,30 +72,17 @@ overflow_sub-slot g c =
     let r = first_end c.args.self.now c.args.key c.loop-i.item (c.in_ok-top.top.height - c.loop-i._i) c.requires some c.loop-i.invariant (omega arith) in
     omega (arith, r.0)
 
-pub mark-requires : goal.mark-requires
-mark-requires g c =
+pub key_in-requires : goal.key_in-requires
+key_in-requires g c =
     let v = c.args.self.now.nodes.ok.0 in
     let some : 0 < length (vec_items c.args.self.now.nodes) = omega (arith, not_empty (vec_len c.args.self.now.nodes) (sym c.if-is_empty.ensures)) in
     let r = first_end c.args.self.now c.args.key c.loop-i.item (c.in_ok-top.top.height - c.loop-i._i) c.requires some c.loop-i.invariant (omega arith) in
     record { slot_within = omega (arith, r.1) }
-
-pub overflow_sub-result : goal.overflow_sub-result
-overflow_sub-result g c =
-    let v = c.args.self.now.nodes.ok.0 in
-    let some : 0 < length (vec_items c.args.self.now.nodes) = omega (arith, not_empty (vec_len c.args.self.now.nodes) (sym c.if-is_empty.ensures)) in
-    let r = first_end c.args.self.now c.args.key c.loop-i.item (c.in_ok-top.top.height - c.loop-i._i) c.requires some c.loop-i.invariant (omega arith) in
-    omega (arith, (r.2 c.mark.result c.len.result (omega arith) c.mark.ensures).0)
-
-pub overflow_cast-result : goal.overflow_cast-result
-overflow_cast-result g c =
-    let v = c.args.self.now.nodes.ok.0 in
-    let some : 0 < length (vec_items c.args.self.now.nodes) = omega (arith, not_empty (vec_len c.args.self.now.nodes) (sym c.if-is_empty.ensures)) in
-    let r = first_end c.args.self.now c.args.key c.loop-i.item (c.in_ok-top.top.height - c.loop-i._i) c.requires some c.loop-i.invariant (omega arith) in
-    omega (arith, (r.2 c.mark.result c.len.result (omega arith) c.mark.ensures).1)
 
 pub returns : goal.returns
 returns g c =
     let v = c.args.self.now.nodes.ok.0 in
     let some : 0 < length (vec_items c.args.self.now.nodes) = omega (arith, not_empty (vec_len c.args.self.now.nodes) (sym c.if-is_empty.ensures)) in
     let r = first_end c.args.self.now c.args.key c.loop-i.item (c.in_ok-top.top.height - c.loop-i._i) c.requires some c.loop-i.invariant (omega arith) in
-    (r.2 c.mark.result c.len.result (omega arith) c.mark.ensures).2
+    let f = r.2 (key_mark c.key_in.result) c.len.result (omega arith) c.key_in.ensures in
+    found c.key_in.result f.0 _ (First c.args.self.now c.args.key) f.2
