@@ -5,7 +5,7 @@ use Rattle.std.proofs.lemmas.Bool.{cases_lt, cases_eq}
 use Rattle.index.specs.declared.node.Node.{Node}
 use Rattle.index.specs.declared.slot.Head.{Head}
 use Rattle.index.specs.Links.{Linked}
-use Rattle.index.specs.Nodes.{path_in, parent_in, child_in, free_in, Masked}
+use Rattle.index.specs.Nodes.{path_in, parent_in, child_in, free_in}
 use Rattle.index.specs.Slots.{marks, mark_in, slot_parent_in, slot_free_in}
 use Rattle.index.specs.Sound.{path_at, parent_at, SoundIn, filed}
 use Rattle.index.proofs.Shape.{Attached, attached}
@@ -16,7 +16,6 @@ use Rattle.index.proofs.Keys.{filed_add}
 pub unfilled_anywhere : {ns : List Node} {hs : List Head} {unused vacant : ℕ} → SoundIn ns hs unused vacant 0 → 0 < length ns → (x : ℕ) → SoundIn ns hs unused vacant x
 unfilled_anywhere {ns} {hs} s some x = record {
   linked = s.linked;
-  masked = s.masked;
   nonempty = λ i l ne u. s.nonempty i l (λ z. let r : path_in ns i ≡ 1 = ap (path_in ns) z ∙ (sym (path_node ns hs 0 some) ∙ (s.linked some).root) in omega arith) u;
   empty = s.empty;
   fits = s.fits;
@@ -27,7 +26,6 @@ unfilled_anywhere {ns} {hs} s some x = record {
 
 -- the node x has a new path, and is a child of the given node at the step c
 pub record NodeAdded (ns ns' : List Node) (node c x T : ℕ) : Type 0 where
-  pub masked : Masked ns → Masked ns'
   pub len : length ns' ≡ length ns
   pub path_x : path_in ns' x ≡ T
   pub path_o : (j : ℕ) → (j ≡ x → ⊥) → path_in ns' j ≡ path_in ns j
@@ -82,7 +80,6 @@ module _ {ns ns' : List Node} (hs : List Head) {node c x T : ℕ} (g : NodeAdded
               (λ (q : i ≡ node). let r : x ≡ 0 = sym g.child_x ∙ (ap (λ y. child_in ns' y c) (sym q) ∙ zs c cl) in let r2 : path_at ns hs x ≡ 1 = ap (path_at ns hs) r ∙ k.root in omega arith)
               (λ (q : i ≡ node → ⊥). s.nonempty i (omega (arith, g.len)) q (omega (arith, g.path_o i ne)) (λ d dl. sym (g.child_o i d (λ r. q r.0)) ∙ zs d dl))
               (cases_eq i node);
-          masked = g.masked s.masked;
           empty = λ q. absurd (omega (arith, g.len));
           fits = omega (arith, g.len, s.fits);
           nodes_free = record {
@@ -111,7 +108,6 @@ marks_set hs hs' p m len l here rest =
 
 -- the slot p has the mark M, and is a child of the given node at the step c
 pub record SlotTaken (ns ns' : List Node) (hs hs' : List Head) (node c p M : ℕ) : Type 0 where
-  pub masked : Masked ns → Masked ns'
   pub len : length ns' ≡ length ns
   pub paths : (j : ℕ) → path_in ns' j ≡ path_in ns j
   pub parents : (j : ℕ) → parent_in ns' j ≡ parent_in ns j
@@ -177,7 +173,6 @@ module _ {ns ns' : List Node} {hs hs' : List Head} {node c p M : ℕ} (g : SlotT
               (λ (q : i ≡ node). let r : length ns + p ≡ 0 = sym g.child_x ∙ (ap (λ y. child_in ns' y c) (sym q) ∙ zs c cl) in omega arith)
               (λ (q : i ≡ node → ⊥). s.nonempty i (omega (arith, g.len)) q (omega (arith, g.paths i)) (λ d dl. sym (g.child_o i d (λ r. q r.0)) ∙ zs d dl))
               (cases_eq i node);
-          masked = g.masked s.masked;
           empty = λ q. absurd (omega (arith, g.len));
           fits = omega (arith, g.len, g.plen, s.fits);
           nodes_free = record {

@@ -6,7 +6,7 @@ use Rattle.index.specs.declared.node.Node.{Node}
 use Rattle.index.specs.declared.slot.Head.{Head}
 use Rattle.index.specs.Links.{up}
 use Rattle.index.specs.Nodes.{path_in, parent_in, child_in}
-use Rattle.index.specs.Slots.{marks, mark_in, slot_parent_in, no_head}
+use Rattle.index.specs.Slots.{marks, mark_in, slot_parent_in, no_head, key_mark}
 use Rattle.index.specs.Sound.{path_at, parent_at, SoundIn, filed}
 use Rattle.index.specs.Keys.{shares, missing}
 use Rattle.index.proofs.Steps.{up_pos, up_up, up_same, within_child, within_parent, within_up, lead_up, up_to_lead, lead_zero}
@@ -38,7 +38,7 @@ parent_slot ns hs i l = cond-false (ltb i (length ns)) (parent_in ns i) (slot_pa
 pub mark_within : (hs : List Head) (p : ℕ) → 1 ≤ mark_in hs p → p < length hs
 mark_within hs p l =
     ⊎_elim (λ (q : p < length hs). q)
-    (λ (q : length hs ≤ p). let e : mark_in hs p ≡ 0 = ap (λ x. x.mark) (get_or_past hs p no_head q) in absurd (omega arith))
+    (λ (q : length hs ≤ p). let e : mark_in hs p ≡ 0 = ap (λ x. key_mark x.key) (get_or_past hs p no_head q) in absurd (omega arith))
     (cases_lt p (length hs))
 
 -- the first of n numbers that is not 0, if there is one

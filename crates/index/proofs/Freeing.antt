@@ -5,7 +5,7 @@ use Rattle.std.proofs.lemmas.Bool.{cases_lt, cases_eq}
 use Rattle.index.specs.declared.node.Node.{Node}
 use Rattle.index.specs.declared.slot.Head.{Head}
 use Rattle.index.specs.Links.{Linked}
-use Rattle.index.specs.Nodes.{path_in, parent_in, child_in, free_in, none, Masked}
+use Rattle.index.specs.Nodes.{path_in, parent_in, child_in, free_in, none}
 use Rattle.index.specs.Slots.{marks, mark_in, slot_parent_in, slot_free_in}
 use Rattle.index.specs.Sound.{path_at, parent_at, SoundIn, Stacked, filed}
 use Rattle.index.proofs.Shape.{Detached, detached, parent_of}
@@ -32,7 +32,6 @@ stack_more {top} {size} {size'} {at} {at'} {state} {state'} x s e l xl u ax ao s
 
 -- the node x is free, and stands on top of the stack
 pub record NodeFreed (ns ns' : List Node) (x unused : ℕ) : Type 0 where
-  pub masked : Masked ns → Masked ns'
   pub len : length ns' ≡ length ns
   pub path_x : path_in ns' x ≡ 0
   pub path_o : (j : ℕ) → (j ≡ x → ⊥) → path_in ns' j ≡ path_in ns j
@@ -85,7 +84,6 @@ module _ {ns ns' : List Node} (hs : List Head) {x unused : ℕ} (g : NodeFreed n
               (λ (q : i ≡ x). let r : path_in ns' i ≡ 0 = ap (path_in ns') q ∙ g.path_x in omega arith)
               (λ (q : i ≡ x → ⊥). s.nonempty i (omega (arith, g.len)) q (omega (arith, g.path_o i q)) (λ d dl. sym (g.child_o i d (λ r. ne r.0)) ∙ zs d dl))
               (cases_eq i x);
-          masked = g.masked s.masked;
           empty = λ q. absurd (omega (arith, g.len));
           fits = omega (arith, g.len, s.fits);
           nodes_free = stack_more x s.nodes_free g.len fl l (λ q. omega arith) g.free_x g.free_o g.path_x g.path_o;
@@ -97,11 +95,10 @@ module _ {ns ns' : List Node} (hs : List Head) {x unused : ℕ} (g : NodeFreed n
       )
 
 child_past : (ns : List Node) (i c : ℕ) → length ns ≤ i → child_in ns i c ≡ 0
-child_past ns i c l = ap (λ y. get_or y.children c 0) (get_or_past ns i none l)
+child_past ns i c l = ap (λ y. get_or y.children.items c 0) (get_or_past ns i none l)
 
 -- the slot p is free, and stands on top of the stack
 pub record SlotFreed (ns ns' : List Node) (hs hs' : List Head) (p vacant : ℕ) : Type 0 where
-  pub masked : Masked ns → Masked ns'
   pub len : length ns' ≡ length ns
   pub paths : (j : ℕ) → path_in ns' j ≡ path_in ns j
   pub parents : (j : ℕ) → parent_in ns' j ≡ parent_in ns j
@@ -175,7 +172,6 @@ module _ {ns ns' : List Node} {hs hs' : List Head} {p vacant : ℕ} (g : SlotFre
           nonempty = λ i il ne iu zs.
               let i0 : i ≡ 0 → ⊥ = λ q. let r : path_in ns i ≡ 1 = ap (path_in ns) q ∙ (sym (path_node ns hs 0 some) ∙ k.root) in omega (arith, g.paths i) in
               s.nonempty i (omega (arith, g.len)) i0 (omega (arith, g.paths i)) (λ d dl. sym (g.child_o i d (λ r. ne r.0)) ∙ zs d dl);
-          masked = g.masked s.masked;
           empty = λ q. absurd (omega (arith, g.len));
           fits = omega (arith, g.len, g.plen, s.fits);
           nodes_free = record {

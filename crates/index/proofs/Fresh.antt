@@ -2,14 +2,12 @@
 use Rattle.std.proofs.Common.{◌≡◌, ℕ, suc, ◌+◌, ◌-◌, ◌^◌, ◌<◌, ◌≤◌, leb, List, [], ◌∷◌, length, get_or, vec_items, refl, ap, ◌∙◌, ⊎_elim, arith}
 use Rattle.std.proofs.lemmas.List.{get_or_past}
 use Rattle.std.proofs.lemmas.Bool.{cases_lt, cases_eq, cond-false, lt-leb}
-use Rattle.index.specs.declared.node.Node.{Node}
 use Rattle.index.specs.declared.tree.Tree.{Tree}
 use Rattle.index.specs.Keys.{parts}
-use Rattle.index.specs.Nodes.{path_in, child_in, free_in, mask_in, none, bit, Masked}
-use Rattle.index.specs.Slots.{marks, mark_in, slot_free_in, no_head}
+use Rattle.index.specs.Nodes.{path_in, child_in, free_in, none}
+use Rattle.index.specs.Slots.{marks, mark_in, slot_free_in, no_head, key_mark}
 use Rattle.index.specs.Sound.{path_at, Sound, heads_of, filed}
 use Rattle.index.specs.Filing.{Whole, keys_of, nodes_of, slots_of}
-use Rattle.index.proofs.Masks.{bit_zero}
 use Rattle.index.proofs.Below.{path_node, path_slot, marks_at}
 
 pub filed_none : (ms : List ℕ) → ((p : ℕ) → get_or ms p 0 ≡ 0) → filed ms ≡ []
@@ -20,29 +18,19 @@ parts_none : parts [] ≡ 0
 unfolding parts
 parts_none = refl
 
-pub masked_none : (ns : List Node) → ((j : ℕ) → j < length ns → mask_in ns j ≡ 0) → ((j c : ℕ) → j < length ns → c < 16 → child_in ns j c ≡ 0) → Masked ns
-masked_none ns ms cs j =
-    ⊎_elim
-    (λ (l : j < length ns). record { clear = λ c cl z. cs j c l cl; absent = λ c cl z. ap (bit c) (ms j l) ∙ bit_zero c })
-    (λ (l : length ns ≤ j).
-    let e = get_or_past ns j none l in
-    record { clear = λ c cl z. ap (λ x. get_or x.children c 0) e; absent = λ c cl z. ap (λ x. bit c x.mask) e ∙ bit_zero c })
-    (cases_lt j (length ns))
-
 pub fresh : {R : Type 0} (t : Tree R) → nodes_of t + slots_of t < 2 ^ 32 → t.unused ≡ nodes_of t - 1 → t.vacant ≡ slots_of t
     → (0 < nodes_of t → path_in (vec_items t.nodes) 0 ≡ 1)
     → ((j : ℕ) → j < nodes_of t → (j ≡ 0 → ⊥) → path_in (vec_items t.nodes) j ≡ 0)
     → ((j c : ℕ) → j < nodes_of t → c < 16 → child_in (vec_items t.nodes) j c ≡ 0)
-    → Masked (vec_items t.nodes)
     → ((k : ℕ) → k < nodes_of t → free_in (vec_items t.nodes) k ≡ k + 1)
     → ((p : ℕ) → p < slots_of t → mark_in (heads_of t) p ≡ 0)
     → ((k : ℕ) → k < slots_of t → slot_free_in (heads_of t) k ≡ k)
     → Whole t × (keys_of t ≡ [])
-fresh t fits f v root paths children mk frees ms vs =
+fresh t fits f v root paths children frees ms vs =
     let ns = vec_items t.nodes in
     let hs = heads_of t in
-    let mark0 : (p : ℕ) → mark_in hs p ≡ 0 = λ p. ⊎_elim (λ (l : p < length hs). ms p l) (λ (l : length hs ≤ p). ap (λ x. x.mark) (get_or_past hs p no_head l)) (cases_lt p (length hs)) in
-    let child0 : (j c : ℕ) → c < 16 → child_in ns j c ≡ 0 = λ j c cl. ⊎_elim (λ (l : j < length ns). children j c l cl) (λ (l : length ns ≤ j). ap (λ x. get_or x.children c 0) (get_or_past ns j none l)) (cases_lt j (length ns)) in
+    let mark0 : (p : ℕ) → mark_in hs p ≡ 0 = λ p. ⊎_elim (λ (l : p < length hs). ms p l) (λ (l : length hs ≤ p). ap (λ x. key_mark x.key) (get_or_past hs p no_head l)) (cases_lt p (length hs)) in
+    let child0 : (j c : ℕ) → c < 16 → child_in ns j c ≡ 0 = λ j c cl. ⊎_elim (λ (l : j < length ns). children j c l cl) (λ (l : length ns ≤ j). ap (λ x. get_or x.children.items c 0) (get_or_past ns j none l)) (cases_lt j (length ns)) in
     let path0 : (j : ℕ) → (j ≡ 0 → ⊥) → path_at ns hs j ≡ 0 = λ j ne. ⊎_elim (λ (l : j < length ns). path_node ns hs j l ∙ paths j l ne) (λ (l : length ns ≤ j). path_slot ns hs j l ∙ mark0 (j - length ns)) (cases_lt j (length ns)) in
     let k0 : keys_of t ≡ [] = filed_none (marks hs) (λ p. marks_at hs p ∙ mark0 p) in
     let len0 : length (keys_of t) ≡ 0 = ap length k0 in
@@ -59,7 +47,6 @@ fresh t fits f v root paths children mk frees ms vs =
             small = λ i l. omega (arith, low i);
             large = λ i l u. absurd (omega (arith, used i u));
           };
-      masked = mk;
       nonempty = λ i l ne u z. omega (arith, paths i l ne);
       empty = λ _. mark0;
       fits = fits;

@@ -1,6 +1,5 @@
 pub mod Adding
 pub mod Below
-pub mod ChildWrites
 pub mod Descending
 pub mod Filings
 pub mod Freeing

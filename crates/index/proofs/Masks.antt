@@ -2,13 +2,11 @@
 use Rattle.std.proofs.Common.{◌≡◌, ℕ, zero, suc, ◌+◌, ◌-◌, ◌*◌, ◌/◌, ◌%◌, ◌^◌, ◌<◌, ◌≤◌, min, max, List, get_or, sym, refl, ap, ◌∙◌, ⊎_elim, pow-suc, div-one, arith}
 use lib.Bits.{bit_and, bit_or, and_step, or_step}
 use lib.Count.{count_trailing_zeros, under}
+use mathlib.Core.Logic.{∥∥₁_elim}
+use denote.Struct.Props.{props}
 use Rattle.std.proofs.lemmas.Nat.{shr-shr}
 use Rattle.std.proofs.lemmas.Bool.{cases_eq}
-use Rattle.index.specs.Nodes.{bit, Agrees}
-
-pub bit_zero : (c : ℕ) → bit c 0 ≡ 0
-bit_zero zero = refl
-bit_zero (suc c) = bit_zero c
+use Rattle.index.specs.Masks.{bit, bit_zero, Agrees}
 
 bit_in_or : (c a b : ℕ) → bit c (bit_or a b) ≡ max (bit c a) (bit c b)
 bit_in_or zero a b = let s = or_step a b in omega arith
@@ -74,18 +72,39 @@ trailing (suc k) n =
     below m z t u e f zero l = z
     below m z t u e f (suc d) l = f d (omega arith)
 
--- the first step from `from` on whose bit is set, or 16
-pub next_step : (mask from t r : ℕ) (children : List ℕ) → Agrees mask children → t ≡ count_trailing_zeros 32 (mask / 2 ^ from) → r ≡ min (from + t) 16 → from ≤ 16
-    → ((from ≤ r) × (r ≤ 16)) × ((d : ℕ) → from ≤ d → d < r → get_or children d 0 ≡ 0) × (r < 16 → get_or children r 0 ≡ 0 → ⊥)
-next_step mask from t r children a e er fl =
+agrees_prop : (mask : ℕ) (children : List ℕ) → IsProp (Agrees mask children)
+agrees_prop mask children p q =
+    let a : IsProp ((c : ℕ) → c < 16 → bit c mask ≡ 0 → get_or children c 0 ≡ 0) = hlevel props in
+    let b : IsProp ((c : ℕ) → c < 16 → get_or children c 0 ≡ 0 → bit c mask ≡ 0) = hlevel props in
+    λ i. record { clear = a p.clear q.clear i; absent = b p.absent q.absent i }
+
+-- what the ghost field keeps
+pub agreed : {mask : ℕ} {children : List ℕ} → ∥ Agrees mask children ∥₁ → Agrees mask children
+agreed {mask} {children} w = ∥∥₁_elim w (agrees_prop mask children) (λ x. x)
+
+pub agrees_none : (children : List ℕ) → ((c : ℕ) → c < 16 → get_or children c 0 ≡ 0) → Agrees 0 children
+agrees_none children z = record { clear = λ c cl e. z c cl; absent = λ c cl e. bit_zero c }
+
+passed : (mask from : ℕ) (children : List ℕ) → Agrees mask children → (d : ℕ) → from ≤ d → d < from + count_trailing_zeros 32 (mask / 2 ^ from) → d < 16 → get_or children d 0 ≡ 0
+passed mask from children a d lo hi l =
+    let z = trailing 32 (mask / 2 ^ from) in
+    let s : from + (d - from) ≡ d = omega arith in
+    a.clear d l (ap (λ x. bit x mask) (sym s) ∙ (sym (bit_shr from (d - from) mask) ∙ z.0 (d - from) (omega arith)))
+
+-- the next step whose bit is set has a child, and those before it have none
+pub next_none : (mask from : ℕ) (children : List ℕ) → Agrees mask children → 16 ≤ from + count_trailing_zeros 32 (mask / 2 ^ from)
+    → (d : ℕ) → from ≤ d → d < 16 → get_or children d 0 ≡ 0
+next_none mask from children a e d lo hi = passed mask from children a d lo (omega arith) hi
+
+pub next_some : (mask from r : ℕ) (children : List ℕ) → Agrees mask children → r ≡ from + count_trailing_zeros 32 (mask / 2 ^ from) → r < 16
+    → (from ≤ r) × (r < 16) × ((d : ℕ) → from ≤ d → d < r → get_or children d 0 ≡ 0) × (get_or children r 0 ≡ 0 → ⊥)
+next_some mask from r children a e l =
     let z = trailing 32 (mask / 2 ^ from) in (
-      (omega arith, omega arith),
-      (λ d lo hi.
-          let s : from + (d - from) ≡ d = omega arith in
-          a.clear d (omega arith) (ap (λ x. bit x mask) (sym s) ∙ (sym (bit_shr from (d - from) mask) ∙ z.0 (d - from) (omega arith)))),
-      (λ l q.
-          let s : from + count_trailing_zeros 32 (mask / 2 ^ from) ≡ r = omega arith in
-          let one : bit r mask ≡ 1 = ap (λ x. bit x mask) (sym s) ∙ (sym (bit_shr from (count_trailing_zeros 32 (mask / 2 ^ from)) mask) ∙ z.1 (omega arith)) in
+      omega arith,
+      l,
+      (λ d lo hi. passed mask from children a d lo (omega arith) (omega arith)),
+      (λ q.
+          let one : bit r mask ≡ 1 = ap (λ x. bit x mask) e ∙ (sym (bit_shr from (count_trailing_zeros 32 (mask / 2 ^ from)) mask) ∙ z.1 (omega arith)) in
           omega (arith, a.absent r l q)),
     )
 

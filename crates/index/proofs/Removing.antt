@@ -20,7 +20,6 @@ pub filled_again : {ns : List Node} {hs : List Head} {unused vacant node : ℕ} 
     → (path_in ns node ≡ 1) ⊎ (((c : ℕ) → c < 16 → child_in ns node c ≡ 0) → ⊥) → SoundIn ns hs unused vacant 0
 filled_again {ns} {hs} {unused} {vacant} {node} s e = record {
   linked = s.linked;
-  masked = s.masked;
   nonempty = λ i l ne u z. ⊎_elim
       (λ (q : i ≡ node). ⊎_elim
       (λ (r : path_in ns node ≡ 1). let y : path_in ns i ≡ 1 = ap (path_in ns) q ∙ r in omega arith)

@@ -47,9 +47,8 @@ module _ {ns : List Node} {hs : List Head} {unused vacant : ℕ} (s : SoundIn ns
       (cases_lt (up low m) (16 * T + c))
 
   -- the search begins where the way to the key ended
-  pub scan_start : (key item g c : ℕ) → key < 2 ^ 32 → Descended ns hs key item (suc g) → up g (2 ^ 32 + key) % 16 + 1 ≤ c → c ≤ 16
-      → ((d : ℕ) → up g (2 ^ 32 + key) % 16 + 1 ≤ d → d < c → child_in ns item d ≡ 0) → Scan ns hs key item g c
-  scan_start key item g c kl w lo hi z =
+  pub scan_start : (key item g : ℕ) → key < 2 ^ 32 → Descended ns hs key item (suc g) → Scan ns hs key item g (up g (2 ^ 32 + key) % 16 + 1)
+  scan_start key item g kl w =
       let t = 2 ^ 32 + key in
       let here = w.here some in
       let l : item < length ns = w.node some (omega arith) in
@@ -59,7 +58,7 @@ module _ {ns : List Node} {hs : List Head} {unused vacant : ℕ} (s : SoundIn ns
       record {
         high = omega arith;
         node_in = l;
-        step = hi;
+        step = omega arith;
         level = lev;
         before = omega arith;
         least = λ p lp.
@@ -68,13 +67,24 @@ module _ {ns : List Node} {hs : List Head} {unused vacant : ℕ} (s : SoundIn ns
             let ne : up g (mark_in hs p) ≡ up g t → ⊥ = λ q.
             let j = above (s.linked some) g (mark_in hs p) (length ns + p) (path_past ns hs p) (up_pos g (mark_in hs p) (omega arith) b.0) in
             none_at (s.linked some) item (up g t) j.0 (omega (arith, up_pos (suc g) t high (omega arith))) here (w.ends g some refl) (j.1 ∙ q) in
-            skip item g (up g t % 16 + 1) c p (omega arith) l lev hi z (omega arith) (omega arith);
+            omega arith;
+      }
+
+  -- it passes steps without a child
+  pub scan_pass : (key node low from c : ℕ) → Scan ns hs key node low from → from ≤ c → c ≤ 16 → ((d : ℕ) → from ≤ d → d < c → child_in ns node d ≡ 0) → Scan ns hs key node low c
+  scan_pass key node low from c k lo hi z =
+      record {
+        high = k.high;
+        node_in = k.node_in;
+        step = hi;
+        level = k.level;
+        before = omega (arith, k.before);
+        least = λ p lp. skip node low from c p k.high k.node_in k.level hi z (omega arith) (k.least p lp);
       }
 
   -- where a node has no later child, the search goes on at its parent
-  pub scan_up : (key node low c : ℕ) → Scan ns hs key node low 16 → low < 7 → path_in ns node % 16 + 1 ≤ c → c ≤ 16
-      → ((d : ℕ) → path_in ns node % 16 + 1 ≤ d → d < c → child_in ns (parent_in ns node) d ≡ 0) → Scan ns hs key (parent_in ns node) (suc low) c
-  scan_up key node low c k ll lo hi z =
+  pub scan_up : (key node low : ℕ) → Scan ns hs key node low 16 → low < 7 → Scan ns hs key (parent_in ns node) (suc low) (path_in ns node % 16 + 1)
+  scan_up key node low k ll =
       let T = path_in ns node in
       let tn = path_node ns hs node k.node_in in
       let wo = within_parent (suc low) (omega arith) T k.level in
@@ -89,10 +99,10 @@ module _ {ns : List Node} {hs : List Head} {unused vacant : ℕ} (s : SoundIn ns
       record {
         high = omega arith;
         node_in = l;
-        step = hi;
+        step = omega arith;
         level = lev;
         before = omega arith;
-        least = λ p lp. let kl = k.least p lp in skip (parent_in ns node) (suc low) (T % 16 + 1) c p (omega arith) l lev hi z (omega arith) (omega arith);
+        least = λ p lp. let kl = k.least p lp in omega arith;
       }
 
   -- at the root it ends, with no key
@@ -126,26 +136,31 @@ module _ {ns : List Node} {hs : List Head} {unused vacant : ℕ} (s : SoundIn ns
       (λ (q : length ns ≤ item). absurd (omega (arith, (s.linked some).large item q (omega (arith, o.2)), v.1)))
       (cases_lt item (length ns))
 
+  -- a node that is ahead has a child
+  pub ahead_child : (key item g : ℕ) → Ahead ns hs key item (suc g) → ((d : ℕ) → 0 ≤ d → d < 16 → child_in ns item d ≡ 0) → ⊥
+  ahead_child key item g a z =
+      let n = ahead_node key item g a in
+      let i0 : item ≡ 0 → ⊥ = λ q. let tn = path_node ns hs item n.0 in let r : path_at ns hs item ≡ 1 = ap (path_at ns hs) q ∙ (s.linked some).root in omega (arith, n.1) in
+      s.nonempty item n.0 i0 n.1 (λ d dl. z d (omega arith) dl)
+
   -- the first child of a node that is ahead
-  pub ahead_down : (key item g c : ℕ) → Ahead ns hs key item (suc g) → c ≤ 16 → ((d : ℕ) → 0 ≤ d → d < c → child_in ns item d ≡ 0) → (c < 16 → child_in ns item c ≡ 0 → ⊥)
-      → (c < 16) × (Ahead ns hs key (child_in ns item c) g)
+  pub ahead_down : (key item g c : ℕ) → Ahead ns hs key item (suc g) → c < 16 → ((d : ℕ) → 0 ≤ d → d < c → child_in ns item d ≡ 0) → (child_in ns item c ≡ 0 → ⊥)
+      → Ahead ns hs key (child_in ns item c) g
   ahead_down key item g c a cl z ne =
       let n = ahead_node key item g a in
       let hi = a.high in
       let tn = path_node ns hs item n.0 in
-      let i0 : item ≡ 0 → ⊥ = λ q. let r : path_at ns hs item ≡ 1 = ap (path_at ns hs) q ∙ (s.linked some).root in omega (arith, n.1) in
-      let c16 : c < 16 = ⊎_elim (λ (q : c < 16). q) (λ (q : 16 ≤ c). absurd (s.nonempty item n.0 i0 n.1 (λ d dl. z d (omega arith) (omega arith)))) (cases_lt c 16) in
       let lev : Within (suc g) (path_in ns item) = subst (Within (suc g)) tn a.level in
       let bf = a.before in
       let k : Scan ns hs key item g c = record {
         high = omega arith;
         node_in = n.0;
-        step = cl;
+        step = omega arith;
         level = lev;
         before = omega arith;
-        least = λ p lp. let al = a.least p lp in skip item g 0 c p (omega arith) n.0 lev cl z (omega arith) (omega arith);
+        least = λ p lp. let al = a.least p lp in skip item g 0 c p (omega arith) n.0 lev (omega arith) z (omega arith) (omega arith);
       } in
-      (c16, scan_found key item g c k c16 (ne c16))
+      scan_found key item g c k cl ne
 
   pub ahead_end : (key item : ℕ) → Ahead ns hs key item 0
       → (length ns ≤ item) × (item - length ns < length hs) × (2 ^ 32 ≤ mark_in hs (item - length ns)) × (mark_in hs (item - length ns) < 2 ^ 33) × (mark_in hs (item - length ns) ≡ path_at ns hs item)

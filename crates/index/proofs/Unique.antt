@@ -1,12 +1,12 @@
 -- That a tree is whole holds in at most one way, so that a ghost field may say it.
-use Rattle.std.proofs.Common.{◌≡◌, ℕ, ◌+◌, ◌*◌, ◌/◌, ◌%◌, ◌^◌, ◌<◌, ◌≤◌, List, length, get_or}
+use Rattle.std.proofs.Common.{◌≡◌, ℕ, ◌+◌, ◌*◌, ◌/◌, ◌%◌, ◌^◌, ◌<◌, ◌≤◌, List, length}
 use mathlib.Core.Logic.{∥∥₁_elim}
 use denote.Struct.Props.{props}
 use Rattle.index.specs.declared.node.Node.{Node}
 use Rattle.index.specs.declared.slot.Head.{Head}
 use Rattle.index.specs.Keys.{parts}
 use Rattle.index.specs.Links.{Linked}
-use Rattle.index.specs.Nodes.{path_in, child_in, free_in, mask_in, none, bit, Agrees}
+use Rattle.index.specs.Nodes.{path_in, child_in, free_in}
 use Rattle.index.specs.Slots.{marks, mark_in, slot_free_in}
 use Rattle.index.specs.Sound.{path_at, parent_at, SoundIn, Stacked, filed}
 use Rattle.index.specs.Filing.{WholeIn}
@@ -29,12 +29,6 @@ stacked_prop top size at state p q =
     let d : IsProp ((k l : ℕ) → k < l → l < top → at k ≡ at l → ⊥) = hlevel props in
     λ i. record { top_le = a p.top_le q.top_le i; within = b p.within q.within i; idle = c p.idle q.idle i; apart = d p.apart q.apart i }
 
-agrees_prop : (mask : ℕ) (children : List ℕ) → IsProp (Agrees mask children)
-agrees_prop mask children p q =
-    let a : IsProp ((c : ℕ) → c < 16 → bit c mask ≡ 0 → get_or children c 0 ≡ 0) = hlevel props in
-    let b : IsProp ((c : ℕ) → c < 16 → get_or children c 0 ≡ 0 → bit c mask ≡ 0) = hlevel props in
-    λ i. record { clear = a p.clear q.clear i; absent = b p.absent q.absent i }
-
 sound_prop : (ns : List Node) (hs : List Head) (unused vacant unfilled : ℕ) → IsProp (SoundIn ns hs unused vacant unfilled)
 sound_prop ns hs unused vacant unfilled p q =
     let b : IsProp ((i : ℕ) → i < length ns → (i ≡ unfilled → ⊥) → 1 < path_in ns i → ((c : ℕ) → c < 16 → child_in ns i c ≡ 0) → ⊥) = hlevel props in
@@ -43,7 +37,6 @@ sound_prop ns hs unused vacant unfilled p q =
     let e : IsProp (vacant + length (filed (marks hs)) ≡ length hs) = hlevel props in
     λ i. record {
       linked = λ h. linked_prop (length ns) (path_at ns hs) (parent_at ns hs) (child_in ns) (p.linked h) (q.linked h) i;
-      masked = λ j. agrees_prop (mask_in ns j) (get_or ns j none).children (p.masked j) (q.masked j) i;
       nonempty = b p.nonempty q.nonempty i;
       empty = c p.empty q.empty i;
       fits = d p.fits q.fits i;

@@ -4,6 +4,7 @@ pub mod History
 pub mod Keys
 pub mod Links
 pub mod Map
+pub mod Masks
 pub mod Nexts
 pub mod Nodes
 pub mod Refusals

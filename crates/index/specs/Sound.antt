@@ -5,7 +5,7 @@ use Rattle.index.specs.declared.node.Node.{Node}
 use Rattle.index.specs.declared.slot.Head.{Head}
 use Rattle.index.specs.declared.tree.Tree.{Tree}
 use Rattle.index.specs.Links.{Linked}
-use Rattle.index.specs.Nodes.{path_in, parent_in, child_in, free_in, Masked}
+use Rattle.index.specs.Nodes.{path_in, parent_in, child_in, free_in}
 use Rattle.index.specs.Slots.{heads, records, marks, mark_in, slot_parent_in, slot_free_in}
 
 abbrev pub heads_of : {R : Type 0} → Tree R → List Head
@@ -35,7 +35,6 @@ pub record Stacked (top size : ℕ) (at state : ℕ → ℕ) : Type 0 where
 -- each node in use has a child, but for the root and, while a call is under way, for the node `unfilled`
 pub record SoundIn (ns : List Node) (hs : List Head) (unused vacant unfilled : ℕ) : Type 0 where
   pub linked : 0 < length ns → Linked (length ns) (path_at ns hs) (parent_at ns hs) (child_in ns)
-  pub masked : Masked ns
   pub nonempty : (i : ℕ) → i < length ns → (i ≢ unfilled) → 1 < path_in ns i → ((c : ℕ) → c < 16 → child_in ns i c ≡ 0) → ⊥
   pub empty : length ns ≡ 0 → (p : ℕ) → mark_in hs p ≡ 0
   pub fits : length ns + length hs < 2 ^ 32

@@ -10,8 +10,8 @@ ghost use Rattle.index.specs.Descents.{Descended};
 use super::node::child;
 use super::tree::Tree;
 
-// The mark of the slot of key 0.
-pub(crate) const FILED: u64 = 0x1_0000_0000;
+// The path of the slot of key 0.
+const FILED: u64 = 0x1_0000_0000;
 
 // An item of the tree, `height` steps above a slot: a slot has height 0, the root has 8.
 #[derive(Clone, Copy)]
@@ -25,7 +25,7 @@ pub(crate) fn path_above(key: u32, height: u32) -> u64
     requires { height ≤ 8 }
     ensures { result ≡ up height (2 ^ 32 + key) }
 {
-    (FILED + key as u64) >> (4 * height)
+    (FILED + u64::from(key)) >> (4 * height)
 }
 
 // The last step to the item that is `height` steps above the slot of `key`.
@@ -43,19 +43,20 @@ impl<R: Copy> Tree<R> {
         ensures { Descended self.now.nodes.items (heads_of self.now) key result.item result.height }
     {
         let mut item = 0;
-        let mut height = 8;
         if self.nodes.len() == 0 {
-            return End { item, height };
+            return End { item, height: 8 };
         }
-        while height > 0 {
-            let next = child(&self.nodes, item, step(key, height - 1));
+        for height in (0..8).rev() {
+            let next = child(&self.nodes, item, step(key, height));
             if next == 0 {
-                return End { item, height };
+                return End {
+                    item,
+                    height: height + 1,
+                };
             }
             item = next;
-            height -= 1;
         }
-        End { item, height }
+        End { item, height: 0 }
     }
 
     // The slot of the key.

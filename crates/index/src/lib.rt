@@ -3,6 +3,7 @@
 
 mod access;
 mod calls;
+mod children;
 mod descend;
 mod index;
 mod laws;

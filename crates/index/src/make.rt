@@ -1,6 +1,6 @@
 //! Making a tree, and taking it apart.
 ghost use Rattle.std.specs.Prelude.{◌≡◌, ℕ, ◌+◌, ◌-◌, ◌*◌, ◌/◌, ◌%◌, ◌^◌, ◌<◌, ◌≤◌, min, [], length, vec_len, ◌≢◌};
-ghost use Rattle.index.specs.Nodes.{path_in, child_in, free_in, mask_in, Masked};
+ghost use Rattle.index.specs.Nodes.{path_in, child_in, free_in};
 ghost use Rattle.index.specs.Slots.{heads, mark_in, slot_free_in};
 ghost use Rattle.index.specs.Filing.{Whole, keys_of, nodes_of, slots_of};
 
@@ -15,21 +15,16 @@ pub const LIMIT: usize = 0x7fff_ffff;
 fn clear_node(nodes: &mut Vec<Node>, i: usize, free: u32)
     requires { i < vec_len nodes.old }
     ensures path { path_in nodes.new.items i ≡ 0 }
-    ensures mask { mask_in nodes.new.items i ≡ 0 }
     ensures children { (c : ℕ) → c < 16 → child_in nodes.new.items i c ≡ 0 }
     ensures free { free_in nodes.new.items i ≡ free }
     ensures paths { (j : ℕ) → (j ≢ i) → path_in nodes.new.items j ≡ path_in nodes.old.items j }
-    ensures masks { (j : ℕ) → (j ≢ i) → mask_in nodes.new.items j ≡ mask_in nodes.old.items j }
     ensures rest { (j c : ℕ) → (j ≢ i) → child_in nodes.new.items j c ≡ child_in nodes.old.items j c }
     ensures frees { (j : ℕ) → (j ≢ i) → free_in nodes.new.items j ≡ free_in nodes.old.items j }
     ensures len { length nodes.new.items ≡ length nodes.old.items }
 {
     nodes[i] = Node {
-        children: [0; 16],
-        mask: 0,
-        path: 0,
-        parent: 0,
         free,
+        ..Node::BLANK
     };
 }
 
@@ -42,7 +37,7 @@ fn clear_slot<R: Copy>(slots: &mut Vec<Slot<R>>, i: usize, free: u32)
     ensures len { length (heads slots.new.items) ≡ length (heads slots.old.items) }
 {
     slots[i].head = Head {
-        mark: 0,
+        key: None,
         parent: 0,
         free,
     };
@@ -53,7 +48,6 @@ fn clear_nodes(nodes: &mut Vec<Node>)
     requires { vec_len nodes.old < 2 ^ 31 }
     ensures paths { (j : ℕ) → j < length nodes.new.items → path_in nodes.new.items j ≡ 0 }
     ensures children { (j c : ℕ) → j < length nodes.new.items → c < 16 → child_in nodes.new.items j c ≡ 0 }
-    ensures masked { Masked nodes.new.items }
     ensures frees { (j : ℕ) → j < length nodes.new.items → free_in nodes.new.items j ≡ j + 1 }
     ensures len { length nodes.new.items ≡ length nodes.old.items }
 {

@@ -1,14 +1,13 @@
 //! A node of the tree, and what a write to one in a `Vec` leaves.
-ghost use Rattle.std.specs.Prelude.{◌≡◌, ℕ, ◌+◌, ◌-◌, ◌*◌, ◌/◌, ◌%◌, ◌^◌, ◌<◌, ◌≤◌, length, set, vec_len, ◌≢◌};
-ghost use Rattle.index.specs.Nodes.{path_in, parent_in, child_in, free_in, Masked};
+ghost use Rattle.std.specs.Prelude.{◌≡◌, ℕ, ◌+◌, ◌-◌, ◌*◌, ◌/◌, ◌%◌, ◌^◌, ◌<◌, ◌≤◌, length, set, vec_len, MatchOption, ◌≢◌};
+ghost use Rattle.index.specs.Nodes.{path_in, parent_in, child_in, free_in};
+
+use crate::children::Children;
 
 /// Memory for one node of the tree.
 #[derive(Clone, Copy)]
 pub struct Node {
-    // by step: 0 for none, else a node's number, or the number of nodes and a slot's number
-    pub(crate) children: [u32; 16],
-    // bit c is set where there is a child at step c, so that a search skips the steps with none
-    pub(crate) mask: u32,
+    pub(crate) children: Children,
     // 0 in a free node; else a 1 and then the steps from the root to it, four bits each
     pub(crate) path: u32,
     pub(crate) parent: u32,
@@ -19,8 +18,7 @@ pub struct Node {
 impl Node {
     /// What memory for an index is filled with: `vec![in heap; Node::BLANK; n]`.
     pub const BLANK: Node = Node {
-        children: [0; 16],
-        mask: 0,
+        children: Children::NONE,
         path: 0,
         parent: 0,
         free: 0,
@@ -32,7 +30,7 @@ pub(crate) fn child(nodes: &Vec<Node>, node: u32, step: usize) -> u32
     requires step_within { step < 16 }
     ensures { result ≡ child_in nodes.now.items node step }
 {
-    nodes[node as usize].children[step]
+    nodes[node as usize].children.child(step)
 }
 
 // Makes `item` the child at the step.
@@ -46,11 +44,8 @@ pub(crate) fn set_child(nodes: &mut Vec<Node>, node: u32, step: usize, item: u32
     ensures parents { (j : ℕ) → parent_in nodes.new.items j ≡ parent_in nodes.old.items j }
     ensures frees { (j : ℕ) → free_in nodes.new.items j ≡ free_in nodes.old.items j }
     ensures len { length nodes.new.items ≡ length nodes.old.items }
-    ensures masked { Masked nodes.old.items → Masked nodes.new.items }
 {
-    let n = &mut nodes[node as usize];
-    n.children[step] = item;
-    n.mask |= 1 << step;
+    nodes[node as usize].children.set(step, item);
 }
 
 // Leaves no child at the step.
@@ -63,11 +58,8 @@ pub(crate) fn clear_child(nodes: &mut Vec<Node>, node: u32, step: usize)
     ensures parents { (j : ℕ) → parent_in nodes.new.items j ≡ parent_in nodes.old.items j }
     ensures frees { (j : ℕ) → free_in nodes.new.items j ≡ free_in nodes.old.items j }
     ensures len { length nodes.new.items ≡ length nodes.old.items }
-    ensures masked { Masked nodes.old.items → Masked nodes.new.items }
 {
-    let n = &mut nodes[node as usize];
-    n.children[step] = 0;
-    n.mask &= !(1 << step);
+    nodes[node as usize].children.clear(step);
 }
 
 pub(crate) fn set_path(nodes: &mut Vec<Node>, node: u32, path: u32, parent: u32)
@@ -79,7 +71,6 @@ pub(crate) fn set_path(nodes: &mut Vec<Node>, node: u32, path: u32, parent: u32)
     ensures parent_rest { (j : ℕ) → (j ≢ node) → parent_in nodes.new.items j ≡ parent_in nodes.old.items j }
     ensures frees { (j : ℕ) → free_in nodes.new.items j ≡ free_in nodes.old.items j }
     ensures len { length nodes.new.items ≡ length nodes.old.items }
-    ensures masked { Masked nodes.old.items → Masked nodes.new.items }
 {
     nodes[node as usize].path = path;
     nodes[node as usize].parent = parent;
@@ -93,7 +84,6 @@ pub(crate) fn set_free(nodes: &mut Vec<Node>, at: usize, node: u32)
     ensures here { free_in nodes.new.items at ≡ node }
     ensures rest { (j : ℕ) → (j ≢ at) → free_in nodes.new.items j ≡ free_in nodes.old.items j }
     ensures len { length nodes.new.items ≡ length nodes.old.items }
-    ensures masked { Masked nodes.old.items → Masked nodes.new.items }
 {
     nodes[at].free = node;
 }
@@ -119,15 +109,12 @@ pub(crate) fn parent(nodes: &Vec<Node>, node: u32) -> u32
     nodes[node as usize].parent
 }
 
-// The first step from `from` on that has a child, or 16.
-pub(crate) fn next_child(nodes: &Vec<Node>, node: u32, from: usize) -> usize
+// The first step from `from` on that has a child.
+pub(crate) fn next_child(nodes: &Vec<Node>, node: u32, from: usize) -> Option<usize>
     requires node_within { node < vec_len nodes.now }
     requires from_within { from ≤ 16 }
-    requires masked { Masked nodes.now.items }
-    ensures bound { (from ≤ result) × (result ≤ 16) }
-    ensures passed { (d : ℕ) → from ≤ d → d < result → child_in nodes.now.items node d ≡ 0 }
-    ensures found { result < 16 → child_in nodes.now.items node result ≢ 0 }
+    ensures { MatchOption result ((d : ℕ) → from ≤ d → d < 16 → child_in nodes.now.items node d ≡ 0)
+        (λ s. (from ≤ s) × (s < 16) × ((d : ℕ) → from ≤ d → d < s → child_in nodes.now.items node d ≡ 0) × (child_in nodes.now.items node s ≢ 0)) }
 {
-    let later = nodes[node as usize].mask >> from;
-    (from + later.trailing_zeros() as usize).min(16)
+    nodes[node as usize].children.next(from)
 }

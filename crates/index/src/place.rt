@@ -7,7 +7,7 @@ ghost use Rattle.index.specs.Filing.{Whole, Placed, Refused, nodes_of, slots_of}
 
 use super::descend::{path_above, step};
 use super::node::{free, set_child, set_path};
-use super::slot::{free_slot, set_mark};
+use super::slot::{free_slot, set_key};
 use super::tree::{FileRefusal, Tree};
 
 impl<R: Copy> Tree<R> {
@@ -54,7 +54,7 @@ impl<R: Copy> Tree<R> {
         let top = self.vacant - 1;
         let p = free_slot(&self.slots, top);
         let n = self.nodes.len() as u32;
-        set_mark(&mut self.slots, p, path_above(key, 0), node);
+        set_key(&mut self.slots, p, Some(key), node);
         set_child(&mut self.nodes, node, step(key, 0), n + p);
         self.vacant = top;
         p
@@ -78,9 +78,7 @@ impl<R: Copy> Tree<R> {
             return Err(FileRefusal::TooFewNodes);
         }
         let mut node = end.item;
-        let mut height = end.height;
-        while height > 1 {
-            height -= 1;
+        for height in (1..end.height).rev() {
             node = self.add_node(node, path_above(key, height) as u32);
         }
         Ok(self.take_slot(node, key))

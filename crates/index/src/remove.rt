@@ -1,23 +1,22 @@
 //! Taking a key out.
 ghost use Rattle.std.specs.Prelude.{◌≡◌, ℕ, ◌+◌, ◌-◌, ◌*◌, ◌/◌, ◌%◌, ◌^◌, ◌<◌, ◌≤◌, true, false, length, vec_len, MatchBool, MatchOption, slice_set};
 ghost use Rattle.index.specs.Keys.{shares};
-ghost use Rattle.index.specs.Nodes.{path_in, child_in, Masked};
+ghost use Rattle.index.specs.Nodes.{path_in, child_in};
 ghost use Rattle.index.specs.Slots.{marks, mark_in};
 ghost use Rattle.index.specs.Sound.{Sound, heads_of, records_of};
 ghost use Rattle.index.specs.Filing.{Whole, Removed, keys_of, nodes_of, slots_of};
 
 use super::descend::step;
 use super::node::{Node, clear_child, next_child, parent, path, set_free, set_path};
-use super::slot::{set_free_slot, set_mark, slot_parent};
+use super::slot::{set_free_slot, set_key, slot_parent};
 use super::tree::Tree;
 
-// Whether the node has no child.
-pub(crate) fn is_empty(nodes: &Vec<Node>, node: u32) -> bool
-    requires within { node < vec_len nodes.now }
-    requires masked { Masked nodes.now.items }
-    ensures { MatchBool result ((c : ℕ) → c < 16 → child_in nodes.now.items node c ≡ 0) (((c : ℕ) → c < 16 → child_in nodes.now.items node c ≡ 0) → ⊥) }
+// Whether the node has a child.
+fn has_child(nodes: &Vec<Node>, node: u32) -> bool
+    requires { node < vec_len nodes.now }
+    ensures { MatchBool result (((c : ℕ) → c < 16 → child_in nodes.now.items node c ≡ 0) → ⊥) ((c : ℕ) → c < 16 → child_in nodes.now.items node c ≡ 0) }
 {
-    next_child(nodes, node, 0) == 16
+    next_child(nodes, node, 0).is_some()
 }
 
 impl<R: Copy> Tree<R> {
@@ -60,7 +59,7 @@ impl<R: Copy> Tree<R> {
         ensures unused { self.new.unused ≡ self.old.unused }
     {
         let up = slot_parent(&self.slots, slot);
-        set_mark(&mut self.slots, slot, 0, up);
+        set_key(&mut self.slots, slot, None, up);
         clear_child(&mut self.nodes, up, step(key, 0));
         set_free_slot(&mut self.slots, self.vacant, slot);
         self.vacant += 1;
@@ -80,10 +79,11 @@ impl<R: Copy> Tree<R> {
         }
         let slot = end.item - self.nodes.len() as u32;
         let mut node = self.free_slot(slot, key);
-        let mut height: u32 = 1;
-        while height < 8 && is_empty(&self.nodes, node) {
+        for _height in 1..8u32 {
+            if has_child(&self.nodes, node) {
+                break;
+            }
             node = self.free_node(node);
-            height += 1;
         }
         Some(slot)
     }

@@ -1,12 +1,12 @@
 //! A record slot: a record with what the tree keeps beside it, and what a write to one in a `Vec` leaves.
 ghost use Rattle.std.specs.Prelude.{◌≡◌, ℕ, ◌+◌, ◌-◌, ◌*◌, ◌/◌, ◌%◌, ◌^◌, ◌<◌, ◌≤◌, length, vec_len, ◌≢◌, slice_index_or, slice_set};
-ghost use Rattle.index.specs.Slots.{heads, records, mark_in, slot_parent_in, slot_free_in};
+ghost use Rattle.index.specs.Slots.{heads, records, key_mark, mark_in, slot_parent_in, slot_free_in};
 
 // What the tree keeps beside a record.
 #[derive(Clone, Copy)]
 pub struct Head {
-    // 0 in a free slot; else 2 ^ 32 and the key
-    pub(crate) mark: u64,
+    // none in a free slot
+    pub(crate) key: Option<u32>,
     // the node whose child it is
     pub(crate) parent: u32,
     // entry i of the stack of free slots stands in slot i, free or not
@@ -27,7 +27,7 @@ impl<R: Copy> Slot<R> {
     {
         Slot {
             head: Head {
-                mark: 0,
+                key: None,
                 parent: 0,
                 free: 0,
             },
@@ -36,9 +36,9 @@ impl<R: Copy> Slot<R> {
     }
 }
 
-pub(crate) fn set_mark<R: Copy>(slots: &mut Vec<Slot<R>>, slot: u32, mark: u64, parent: u32)
+pub(crate) fn set_key<R: Copy>(slots: &mut Vec<Slot<R>>, slot: u32, key: Option<u32>, parent: u32)
     requires slot_within { slot < length (heads slots.old.items) }
-    ensures mark_here { mark_in (heads slots.new.items) slot ≡ mark }
+    ensures mark_here { mark_in (heads slots.new.items) slot ≡ key_mark key }
     ensures mark_rest { (j : ℕ) → (j ≢ slot) → mark_in (heads slots.new.items) j ≡ mark_in (heads slots.old.items) j }
     ensures here { slot_parent_in (heads slots.new.items) slot ≡ parent }
     ensures rest { (j : ℕ) → (j ≢ slot) → slot_parent_in (heads slots.new.items) j ≡ slot_parent_in (heads slots.old.items) j }
@@ -47,7 +47,7 @@ pub(crate) fn set_mark<R: Copy>(slots: &mut Vec<Slot<R>>, slot: u32, mark: u64, 
     ensures values { records slots.new.items ≡ records slots.old.items }
 {
     let head = &mut slots[slot as usize].head;
-    head.mark = mark;
+    head.key = key;
     head.parent = parent;
 }
 
@@ -92,9 +92,9 @@ pub(crate) fn slot_parent<R: Copy>(slots: &Vec<Slot<R>>, slot: u32) -> u32
     slots[slot as usize].head.parent
 }
 
-pub(crate) fn mark<R: Copy>(slots: &Vec<Slot<R>>, slot: u32) -> u64
+pub(crate) fn key_in<R: Copy>(slots: &Vec<Slot<R>>, slot: u32) -> Option<u32>
     requires slot_within { slot < length (heads slots.now.items) }
-    ensures { result ≡ mark_in (heads slots.now.items) slot }
+    ensures { key_mark result ≡ mark_in (heads slots.now.items) slot }
 {
-    slots[slot as usize].head.mark
+    slots[slot as usize].head.key
 }

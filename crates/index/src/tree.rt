@@ -16,7 +16,7 @@ pub(crate) struct Tree<R> {
 #[derive(Clone, Copy, PartialEq, Eq, Debug)]
 pub enum FileRefusal {
     /// The key is new, and every record slot is taken.
-    NoSlot,
+    NoSlot = 41,
     /// The new key needs more nodes than are free.
-    TooFewNodes,
+    TooFewNodes = 42,
 }

@@ -9,11 +9,9 @@ returns c =
     let l : c.args.i < length (vec_items c.args.nodes.now) = omega arith in
     record {
       path = search rules;
-      mask = search rules;
-      children = λ d dl. ap (λ y. get_or y.children d 0) (get_or-set_same (vec_items c.args.nodes.now) c.args.i _ none l) ∙ get_or-replicate 16 d 0 0 dl;
+      children = λ d dl. ap (λ y. get_or y.children.items d 0) (get_or-set_same (vec_items c.args.nodes.now) c.args.i _ none l) ∙ get_or-replicate 16 d 0 0 dl;
       free = search rules;
       paths = search rules;
-      masks = search rules;
       rest = search rules;
       frees = search rules;
       len = search rules;

@@ -1,5 +1,4 @@
-use Rattle.std.proofs.Common.{vec_items, arith}
-use Rattle.index.proofs.Fresh.{masked_none}
+use Rattle.std.proofs.Common.{arith}
 use Rattle.index.proofs.make.clear_nodes.Goals as goal
 
 pub returns : goal.returns
@@ -9,8 +8,7 @@ returns c =
     let e = i.0 in
     record {
       paths = λ j l. i.1 j (omega arith);
-      children = λ j d l dl. i.3 j d (omega arith) dl;
-      masked = masked_none (vec_items c.loop-i.nodes) (λ j l. i.2 j (omega arith)) (λ j d l dl. i.3 j d (omega arith) dl);
-      frees = λ j l. i.4 j (omega arith);
+      children = λ j d l dl. i.2 j d (omega arith) dl;
+      frees = λ j l. i.3 j (omega arith);
       len = omega arith;
     }

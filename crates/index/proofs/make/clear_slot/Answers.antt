@@ -1,6 +1,8 @@
+use Rattle.std.proofs.Common.{None}
 use Rattle.std.proofs.Common.{◌<◌, length, vec_items, ap, arith}
 use Rattle.std.proofs.lemmas.List.{length-map}
 use Rattle.index.specs.declared.slot.Head.{Head}
+use Rattle.index.specs.Slots.{key_mark}
 use Rattle.index.proofs.Heads.{head_here, head_rest, head_len}
 use Rattle.index.proofs.make.clear_slot.Goals as goal
 
@@ -15,11 +17,11 @@ returns g c =
     let l : c.args.i < length ss = omega (arith, length-map ss (λ s. s.head)) in
     let old = c.index_mut.result.now in
     let e = c.index_mut.ensures.value in
-    let h : Head = record { mark = 0; parent = 0; free = c.args.free } in
+    let h : Head = record { key = None; parent = 0; free = c.args.free } in
     record {
-      mark = ap (λ x. x.mark) (head_here ss c.args.i old l e h);
+      mark = ap (λ x. key_mark x.key) (head_here ss c.args.i old l e h);
       free = ap (λ x. x.free) (head_here ss c.args.i old l e h);
-      marks = λ j ne. ap (λ x. x.mark) (head_rest ss c.args.i old l e h j ne);
+      marks = λ j ne. ap (λ x. key_mark x.key) (head_rest ss c.args.i old l e h j ne);
       frees = λ j ne. ap (λ x. x.free) (head_rest ss c.args.i old l e h j ne);
       len = head_len ss c.args.i old l e h;
     }

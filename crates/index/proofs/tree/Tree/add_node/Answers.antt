@@ -30,7 +30,6 @@ pub returns : goal.returns
 returns g c =
     let st : bit_and c.args.path 15 ≡ c.args.path % 16 = and_mask c.args.path 4 in
     let g : NodeAdded (vec_items c.args.self.now.nodes) (vec_items c.set_child.new.nodes) c.args.node (c.args.path % 16) c.free-x.result c.args.path = record {
-      masked = λ m. c.set_child.ensures.masked (c.set_path.ensures.masked m);
       len = c.set_child.ensures.len ∙ c.set_path.ensures.len;
       path_x = c.set_child.ensures.paths c.free-x.result ∙ c.set_path.ensures.here;
       path_o = λ j ne. c.set_child.ensures.paths j ∙ c.set_path.ensures.rest j ne;

@@ -1,11 +1,27 @@
-use Rattle.std.proofs.Common.{◌≡◌, suc, ◌-◌, ◌<◌, length, vec_items, sym, refl, ◌∙◌, subst, arith}
-use Rattle.index.specs.Nexts.{Ahead}
-use Rattle.index.specs.Slots.{marks}
+use Rattle.std.proofs.Common.{◌^◌, ◌≤◌}
+use Rattle.std.proofs.Common.{◌≡◌, ℕ, suc, ◌+◌, ◌-◌, ◌<◌, length, vec_items, vec_len, sym, refl, ◌∙◌, subst, arith}
+use Rattle.std.proofs.Common.{false, zero, Option, None, Some}
+use Rattle.std.specs.Prelude.{◌==◌}
+use Rattle.std.specs.Option.{IsSome, MatchOption}
+use Rattle.index.specs.Nexts.{Ahead, First}
+use Rattle.index.specs.Slots.{key_mark, marks}
 use Rattle.index.specs.Sound.{heads_of}
 use Rattle.index.proofs.Below.{end_found, marks_at}
 use Rattle.index.proofs.Keys.{filed_has}
-use Rattle.index.proofs.Scans.{ahead_node, ahead_down, first_end}
+use Rattle.index.proofs.Scans.{ahead_node, ahead_child, ahead_down, first_end}
 use Rattle.index.proofs.tree.Tree.first_at_or_after.Goals as goal
+
+not_empty : (n : ℕ) → (n == 0) ≡ false → 0 < n
+not_empty zero e = absurd (cc)
+not_empty (suc n) e = omega arith
+
+some_where : (P : Type 0) (Q : ℕ → Type 0) (o : Option ℕ) → MatchOption o P Q → (P → ⊥) → IsSome o
+some_where P Q None p n = absurd (n p)
+some_where P Q (Some x) p n = refl
+
+found : (o : Option ℕ) → 2 ^ 32 ≤ key_mark o → (P : Type 0) (Q : ℕ → Type 0) → Q (key_mark o - 2 ^ 32) → MatchOption o P Q
+found None l P Q q = absurd (omega arith)
+found (Some k) l P Q q = subst Q (let e : 2 ^ 32 + k - 2 ^ 32 ≡ k = omega arith in e) q
 
 pub returns-then-end-eq0 : goal.returns-then-end-eq0
 returns-then-end-eq0 g c =
@@ -17,60 +33,56 @@ returns-then-end-eq0 g c =
       least = λ p l. l;
     }
 
-pub child-item-requires : goal.child-item-requires
-child-item-requires g c =
-    let v = c.args.self.now.nodes.ok.0 in
-    let some : 0 < length (vec_items c.args.self.now.nodes) = omega arith in
-    let e : c.loop-height.height ≡ suc (c.loop-height.height - 1) = omega arith in
-    let a = subst (Ahead (vec_items c.args.self.now.nodes) (heads_of c.args.self.now) c.args.key c.loop-height.item) e c.loop-height.invariant in
-    let z = c.next_child-c.ensures in
-    let d = ahead_down c.requires some c.args.key c.loop-height.item (c.loop-height.height - 1) c.next_child-c.result a z.bound.1 z.passed z.found in
-    let n = ahead_node c.requires some c.args.key c.loop-height.item (c.loop-height.height - 1) a in
-    record { node_within = omega (arith, n.0); step_within = d.0 }
+pub loop-i-init : goal.loop-i-init
+loop-i-init g c = subst (Ahead (vec_items c.args.self.now.nodes) (heads_of c.args.self.now) c.args.key c.in_ok-top.top.item) (let e : c.in_ok-top.top.height ≡ c.in_ok-top.top.height - 0 = omega arith in e) c.in_ok-top.ensures
 
-pub loop-height-preserved : goal.loop-height-preserved
-loop-height-preserved g c =
+pub next_child-requires-clause-node_within : goal.next_child-requires-clause-node_within
+next_child-requires-clause-node_within g c =
     let v = c.args.self.now.nodes.ok.0 in
-    let some : 0 < length (vec_items c.args.self.now.nodes) = omega arith in
-    let e : c.loop-height.height ≡ suc (c.loop-height.height - 1) = omega arith in
-    let a = subst (Ahead (vec_items c.args.self.now.nodes) (heads_of c.args.self.now) c.args.key c.loop-height.item) e c.loop-height.invariant in
-    let z = c.next_child-c.ensures in
-    let d = ahead_down c.requires some c.args.key c.loop-height.item (c.loop-height.height - 1) c.next_child-c.result a z.bound.1 z.passed z.found in
-    subst (λ y. Ahead (vec_items c.args.self.now.nodes) (heads_of c.args.self.now) c.args.key y (c.loop-height.height - 1)) (sym c.child-item.ensures) d.1
+    let some : 0 < length (vec_items c.args.self.now.nodes) = omega (arith, not_empty (vec_len c.args.self.now.nodes) (sym c.if-is_empty.ensures)) in
+    let left = c.in_ok-top.top.height - (c.loop-i._i + 1) in
+    let e : c.in_ok-top.top.height - c.loop-i._i ≡ suc left = omega arith in
+    let a = subst (Ahead (vec_items c.args.self.now.nodes) (heads_of c.args.self.now) c.args.key c.loop-i.item) e c.loop-i.invariant in
+    omega (arith, (ahead_node c.requires some c.args.key c.loop-i.item left a).0)
+
+pub unwrap-first-requires : goal.unwrap-first-requires
+unwrap-first-requires g c =
+    let v = c.args.self.now.nodes.ok.0 in
+    let some : 0 < length (vec_items c.args.self.now.nodes) = omega (arith, not_empty (vec_len c.args.self.now.nodes) (sym c.if-is_empty.ensures)) in
+    let left = c.in_ok-top.top.height - (c.loop-i._i + 1) in
+    let e : c.in_ok-top.top.height - c.loop-i._i ≡ suc left = omega arith in
+    let a = subst (Ahead (vec_items c.args.self.now.nodes) (heads_of c.args.self.now) c.args.key c.loop-i.item) e c.loop-i.invariant in
+    some_where _ _ c.next_child.result c.next_child.ensures (ahead_child c.requires some c.args.key c.loop-i.item left a)
+
+pub loop-i-preserved : goal.loop-i-preserved
+loop-i-preserved g c =
+    let v = c.args.self.now.nodes.ok.0 in
+    let some : 0 < length (vec_items c.args.self.now.nodes) = omega (arith, not_empty (vec_len c.args.self.now.nodes) (sym c.if-is_empty.ensures)) in
+    let left = c.in_ok-top.top.height - (c.loop-i._i + 1) in
+    let e : c.in_ok-top.top.height - c.loop-i._i ≡ suc left = omega arith in
+    let a = subst (Ahead (vec_items c.args.self.now.nodes) (heads_of c.args.self.now) c.args.key c.loop-i.item) e c.loop-i.invariant in
+    let z = rw c.unwrap-first.ensures at c.next_child.ensures in
+    subst (λ y. Ahead (vec_items c.args.self.now.nodes) (heads_of c.args.self.now) c.args.key y left) (sym c.child-item.ensures)
+    (ahead_down c.requires some c.args.key c.loop-i.item left c.unwrap-first.result a z.1 z.2 z.3)
 
 pub overflow_sub-slot : goal.overflow_sub-slot
 overflow_sub-slot g c =
     let v = c.args.self.now.nodes.ok.0 in
-    let some : 0 < length (vec_items c.args.self.now.nodes) = omega arith in
-    let r = first_end c.args.self.now c.args.key c.loop-height.item c.loop-height.height c.requires some c.loop-height.invariant c.loop-height-test.false in
+    let some : 0 < length (vec_items c.args.self.now.nodes) = omega (arith, not_empty (vec_len c.args.self.now.nodes) (sym c.if-is_empty.ensures)) in
+    let r = first_end c.args.self.now c.args.key c.loop-i.item (c.in_ok-top.top.height - c.loop-i._i) c.requires some c.loop-i.invariant (omega arith) in
     omega (arith, r.0)
 
-pub mark-requires : goal.mark-requires
-mark-requires g c =
+pub key_in-requires : goal.key_in-requires
+key_in-requires g c =
     let v = c.args.self.now.nodes.ok.0 in
-    let some : 0 < length (vec_items c.args.self.now.nodes) = omega arith in
-    let r = first_end c.args.self.now c.args.key c.loop-height.item c.loop-height.height c.requires some c.loop-height.invariant c.loop-height-test.false in
+    let some : 0 < length (vec_items c.args.self.now.nodes) = omega (arith, not_empty (vec_len c.args.self.now.nodes) (sym c.if-is_empty.ensures)) in
+    let r = first_end c.args.self.now c.args.key c.loop-i.item (c.in_ok-top.top.height - c.loop-i._i) c.requires some c.loop-i.invariant (omega arith) in
     record { slot_within = omega (arith, r.1) }
-
-pub overflow_sub-result : goal.overflow_sub-result
-overflow_sub-result g c =
-    let v = c.args.self.now.nodes.ok.0 in
-    let some : 0 < length (vec_items c.args.self.now.nodes) = omega arith in
-    let r = first_end c.args.self.now c.args.key c.loop-height.item c.loop-height.height c.requires some c.loop-height.invariant c.loop-height-test.false in
-    let f = r.2 c.mark.result c.len-2.result (omega arith) c.mark.ensures in
-    omega (arith, f.0)
-
-pub overflow_cast-result : goal.overflow_cast-result
-overflow_cast-result g c =
-    let v = c.args.self.now.nodes.ok.0 in
-    let some : 0 < length (vec_items c.args.self.now.nodes) = omega arith in
-    let r = first_end c.args.self.now c.args.key c.loop-height.item c.loop-height.height c.requires some c.loop-height.invariant c.loop-height-test.false in
-    let f = r.2 c.mark.result c.len-2.result (omega arith) c.mark.ensures in
-    omega (arith, f.1)
 
 pub returns : goal.returns
 returns g c =
     let v = c.args.self.now.nodes.ok.0 in
-    let some : 0 < length (vec_items c.args.self.now.nodes) = omega arith in
-    let r = first_end c.args.self.now c.args.key c.loop-height.item c.loop-height.height c.requires some c.loop-height.invariant c.loop-height-test.false in
-    (r.2 c.mark.result c.len-2.result (omega arith) c.mark.ensures).2
+    let some : 0 < length (vec_items c.args.self.now.nodes) = omega (arith, not_empty (vec_len c.args.self.now.nodes) (sym c.if-is_empty.ensures)) in
+    let r = first_end c.args.self.now c.args.key c.loop-i.item (c.in_ok-top.top.height - c.loop-i._i) c.requires some c.loop-i.invariant (omega arith) in
+    let f = r.2 (key_mark c.key_in.result) c.len.result (omega arith) c.key_in.ensures in
+    found c.key_in.result f.0 _ (First c.args.self.now c.args.key) f.2

@@ -29,7 +29,6 @@ returns g c =
       child_o = λ j d ne. c.set_free.ensures.children j d ∙ (c.clear_child.ensures.rest j d (λ q. ne (q.0 ∙ o, q.1 ∙ st)) ∙ c.set_path.ensures.children j d);
       free_x = c.set_free.ensures.here;
       free_o = λ j ne. c.set_free.ensures.rest j ne ∙ (c.clear_child.ensures.frees j ∙ c.set_path.ensures.frees j);
-      masked = λ m. c.set_free.ensures.masked (c.clear_child.ensures.masked (c.set_path.ensures.masked m));
     } in
     let r = node_freed hs g c.requires.sound c.requires.within c.requires.used c.requires.empty c.requires.left in
     record {

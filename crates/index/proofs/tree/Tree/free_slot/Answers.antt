@@ -13,8 +13,8 @@ slot_parent-up-requires g c =
     let h = at_parent c.requires.sound c.requires.some c.args.slot c.args.key c.requires.holds in
     record { slot_within = omega (arith, h.2) }
 
-pub set_mark-requires : goal.set_mark-requires
-set_mark-requires g c =
+pub set_key-requires : goal.set_key-requires
+set_key-requires g c =
     let h = at_parent c.requires.sound c.requires.some c.args.slot c.args.key c.requires.holds in
     record { slot_within = omega (arith, h.2) }
 
@@ -27,7 +27,7 @@ clear_child-requires g c =
 pub set_free_slot-requires : goal.set_free_slot-requires
 set_free_slot-requires g c =
     let h = slot_left c.requires.sound c.requires.some c.args.slot c.args.key c.requires.holds in
-    record { at_within = omega (arith, c.set_mark.ensures.len) }
+    record { at_within = omega (arith, c.set_key.ensures.len) }
 
 pub returns : goal.returns
 returns g c =
@@ -41,21 +41,20 @@ returns g c =
     let mk : mark_in hs p % 16 ≡ (2 ^ 32 + c.args.key) % 16 = ap (λ y. y % 16) c.requires.holds in
     let gap : child_in ns' c.slot_parent-up.result ((2 ^ 32 + c.args.key) % 16) ≡ 0 = ap (child_in ns' c.slot_parent-up.result) (sym st) ∙ c.clear_child.ensures.here in
     let g : SlotFreed ns ns' hs hs' p c.args.self.now.vacant = record {
-      masked = c.clear_child.ensures.masked;
       len = c.clear_child.ensures.len;
       paths = c.clear_child.ensures.paths;
       parents = c.clear_child.ensures.parents;
       frees = c.clear_child.ensures.frees;
       child_x = ap (λ y. child_in ns' y (mark_in hs p % 16)) (sym o) ∙ (ap (child_in ns' c.slot_parent-up.result) mk ∙ gap);
       child_o = λ j d ne. c.clear_child.ensures.rest j d (λ q. ne (q.0 ∙ o, q.1 ∙ (st ∙ sym mk)));
-      plen = c.set_free_slot.ensures.len ∙ c.set_mark.ensures.len;
-      mark_x = c.set_free_slot.ensures.marks p ∙ c.set_mark.ensures.mark_here;
-      mark_o = λ j ne. c.set_free_slot.ensures.marks j ∙ c.set_mark.ensures.mark_rest j ne;
+      plen = c.set_free_slot.ensures.len ∙ c.set_key.ensures.len;
+      mark_x = c.set_free_slot.ensures.marks p ∙ c.set_key.ensures.mark_here;
+      mark_o = λ j ne. c.set_free_slot.ensures.marks j ∙ c.set_key.ensures.mark_rest j ne;
       slot_parents = λ j. c.set_free_slot.ensures.parents j
-          ∙ ⊎_elim (λ (q : j ≡ p). ap (slot_parent_in (heads (vec_items c.set_mark.new.slots))) q ∙ (c.set_mark.ensures.here ∙ (o ∙ ap (slot_parent_in hs) (sym q))))
-          (λ (q : j ≡ p → ⊥). c.set_mark.ensures.rest j q) (cases_eq j p);
+          ∙ ⊎_elim (λ (q : j ≡ p). ap (slot_parent_in (heads (vec_items c.set_key.new.slots))) q ∙ (c.set_key.ensures.here ∙ (o ∙ ap (slot_parent_in hs) (sym q))))
+          (λ (q : j ≡ p → ⊥). c.set_key.ensures.rest j q) (cases_eq j p);
       slot_free_x = c.set_free_slot.ensures.here;
-      slot_free_o = λ j ne. c.set_free_slot.ensures.rest j ne ∙ c.set_mark.ensures.frees j;
+      slot_free_o = λ j ne. c.set_free_slot.ensures.rest j ne ∙ c.set_key.ensures.frees j;
     } in
     let h = at_parent c.requires.sound c.requires.some p c.args.key c.requires.holds in
     let r = slot_freed g c.args.key c.requires.sound c.requires.some c.requires.holds in
@@ -65,7 +64,7 @@ returns g c =
       path = ap (path_in ns') o ∙ (g.paths (slot_parent_in hs p) ∙ h.1);
       gap = gap;
       marks = r.1;
-      records = c.set_free_slot.ensures.values ∙ c.set_mark.ensures.values;
+      records = c.set_free_slot.ensures.values ∙ c.set_key.ensures.values;
       len = g.len;
       unused = refl;
     }

@@ -1,7 +1,7 @@
 use Rattle.std.proofs.Common.{◌≡◌, ℕ, ◌+◌, ◌-◌, ◌<◌, min, List, length, vec_items, sym, ◌∙◌, subst, arith}
 use Rattle.std.proofs.lemmas.List.{length-map}
 use Rattle.index.specs.declared.node.Node.{Node}
-use Rattle.index.specs.Nodes.{path_in, child_in, free_in, Masked}
+use Rattle.index.specs.Nodes.{path_in, child_in, free_in}
 use Rattle.index.specs.Slots.{heads}
 use Rattle.index.proofs.Fresh.{fresh}
 use Rattle.index.proofs.tree.Tree.new.Goals as goal
@@ -10,7 +10,7 @@ use Rattle.index.proofs.tree.Tree.new.Goals.{then-n-gt0, else-n-gt0}
 -- the nodes as the tree begins with them
 abbrev Facts : List Node → ℕ → ℕ → Type 0
 Facts ns n f = (length ns ≡ n) × (f ≡ n - 1) × (0 < n → path_in ns 0 ≡ 1) × ((j : ℕ) → j < n → (j ≡ 0 → ⊥) → path_in ns j ≡ 0)
-    × ((j c : ℕ) → j < n → c < 16 → child_in ns j c ≡ 0) × Masked ns × ((j : ℕ) → j < n → free_in ns j ≡ j + 1)
+    × ((j c : ℕ) → j < n → c < 16 → child_in ns j c ≡ 0) × ((j : ℕ) → j < n → free_in ns j ≡ j + 1)
 
 pub clear_slots-requires : goal.clear_slots-requires
 clear_slots-requires g c =
@@ -29,11 +29,11 @@ returns g c =
       | then-n-gt0 w ↦
           let z = w.set_path.ensures in
           subst (λ y. Facts (vec_items y) n c.if-n-gt0.unused) (sym w.nodes-is)
-          (z.len ∙ e, w.unused-is, (λ _. z.here), (λ j l ne. z.rest j ne ∙ i.paths j (omega arith)), (λ j d l dl. z.children j d ∙ i.children j d (omega arith) dl), z.masked i.masked, (λ j l. z.frees j ∙ i.frees j (omega arith)))
+          (z.len ∙ e, w.unused-is, (λ _. z.here), (λ j l ne. z.rest j ne ∙ i.paths j (omega arith)), (λ j d l dl. z.children j d ∙ i.children j d (omega arith) dl), (λ j l. z.frees j ∙ i.frees j (omega arith)))
       | else-n-gt0 w ↦
           let q : n ≡ 0 = omega (arith, w.if-n-gt0.false) in
           subst (λ y. Facts (vec_items y) n c.if-n-gt0.unused) (sym w.nodes-is)
-          (e, omega (arith, w.unused-is), (λ l. absurd (omega arith)), (λ j l ne. absurd (omega arith)), (λ j d l dl. absurd (omega arith)), i.masked, (λ j l. absurd (omega arith)))
+          (e, omega (arith, w.unused-is), (λ l. absurd (omega arith)), (λ j l ne. absurd (omega arith)), (λ j d l dl. absurd (omega arith)), (λ j l. absurd (omega arith)))
     ] in
     let f0 = facts.0 in
     let f1 = facts.1 in
@@ -50,6 +50,6 @@ returns g c =
     let vacant : c.len-vacant.result ≡ length (heads (vec_items c.clear_slots.new.slots)) = omega arith in
     let w = fresh (record { nodes = c.if-n-gt0.nodes; slots = c.clear_slots.new.slots; unused = c.if-n-gt0.unused; vacant = c.len-vacant.result })
     (omega arith) (omega arith) vacant
-    (λ l. facts.2 (omega arith)) (λ j l ne. facts.3 j (omega arith) ne) (λ j d l dl. facts.4 j d (omega arith) dl) facts.5 (λ j l. facts.6 j (omega arith))
+    (λ l. facts.2 (omega arith)) (λ j l ne. facts.3 j (omega arith) ne) (λ j d l dl. facts.4 j d (omega arith) dl) (λ j l. facts.5 j (omega arith))
     k.marks k.frees in
     record { whole = w.0; none = w.1; nodes = f0 ∙ nodes; slots = size }

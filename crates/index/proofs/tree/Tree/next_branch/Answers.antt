@@ -1,70 +1,53 @@
-use Rattle.std.proofs.Common.{◌≡◌, suc, ◌+◌, ◌-◌, ◌%◌, ◌<◌, vec_items, sym, ap, ◌∙◌, subst, arith}
+use Rattle.std.proofs.Common.{◌≡◌, suc, ◌+◌, ◌-◌, ◌%◌, vec_items, sym, ap, ◌∙◌, subst, arith}
 use lib.Bits.{bit_and}
 use Rattle.std.proofs.lemmas.Nat.{and_mask}
 use Rattle.index.specs.Nexts.{Scan, Ahead}
-use Rattle.index.specs.Nodes.{child_in, path_in}
+use Rattle.index.specs.Nodes.{path_in}
 use Rattle.index.specs.Descents.{Descended}
 use Rattle.index.specs.Sound.{heads_of}
-use Rattle.index.proofs.Scans.{scan_start, scan_up, scan_end, scan_found}
+use Rattle.index.proofs.Scans.{scan_start, scan_pass, scan_up, scan_end, scan_found}
 use Rattle.index.proofs.tree.Tree.next_branch.Goals as goal
 
-pub loop-c-init : goal.loop-c-init
-loop-c-init g c =
+pub loop-height-init : goal.loop-height-init
+loop-height-init g c =
     let ns = vec_items c.args.self.now.nodes in
     let hs = heads_of c.args.self.now in
-    let e : c.args.height ≡ suc (c.args.height - 1) = omega arith in
-    let w : Descended ns hs c.args.key c.args.item (suc (c.args.height - 1)) = subst (Descended ns hs c.args.key c.args.item) e c.requires.descended in
-    let st = c.step.ensures in
-    let b = c.next_child-c.ensures.bound in (
-      scan_start c.requires.sound c.requires.some c.args.key c.args.item (c.args.height - 1) c.next_child-c.result (omega arith) w (omega (arith, b.0)) b.1
-          (λ d l m. c.next_child-c.ensures.passed d (omega arith) m),
-      c.next_child-c.ensures.found,
-    )
-
-pub returns-then-low-eq7 : goal.returns-then-low-eq7
-returns-then-low-eq7 g c =
-    let ns = vec_items c.args.self.now.nodes in
-    let hs = heads_of c.args.self.now in
-    let k = subst (λ x. Scan ns hs c.args.key c.loop-c.node x 16) c.if-low-eq7.true (subst (Scan ns hs c.args.key c.loop-c.node c.loop-c.low) c.loop-c-test.true c.loop-c.invariant.0) in
-    scan_end c.requires.sound c.requires.some c.args.key c.loop-c.node k
-
-pub next_child-c-requires-in-loop-c : goal.next_child-c-requires-in-loop-c
-next_child-c-requires-in-loop-c g c =
-    let ns = vec_items c.args.self.now.nodes in
-    let hs = heads_of c.args.self.now in
-    let v = c.args.self.now.nodes.ok.0 in
-    let k = subst (Scan ns hs c.args.key c.loop-c.node c.loop-c.low) c.loop-c-test.true c.loop-c.invariant.0 in
-    let hi = k.high in
-    let u = scan_up c.requires.sound c.requires.some c.args.key c.loop-c.node c.loop-c.low (path_in ns c.loop-c.node % 16 + 1) k (omega arith) (omega arith) (omega arith) (λ d l m. absurd (omega arith)) in
+    let e : c.args.end.height ≡ suc (c.args.end.height - 1) = omega arith in
+    let w : Descended ns hs c.args.key c.args.end.item (suc (c.args.end.height - 1)) = subst (Descended ns hs c.args.key c.args.end.item) e c.requires.descended in
+    let high = w.high in
     record {
-      masked = c.requires.sound.masked;
-      node_within = omega (arith, u.node_in, c.parent-node.ensures);
-      from_within = omega (arith, and_mask c.path.result 4);
+      on_way = λ l. subst (λ y. Scan ns hs c.args.key c.args.end.item (c.args.end.height - 1) (y + 1)) (sym c.step-from.ensures)
+          (scan_start c.requires.sound c.requires.some c.args.key c.args.end.item (c.args.end.height - 1) (omega arith) w);
+      past_root = λ l. absurd (omega arith);
     }
 
-pub loop-c-preserved : goal.loop-c-preserved
-loop-c-preserved g c =
+pub returns-in-Some : goal.returns-in-Some
+returns-in-Some g c =
     let ns = vec_items c.args.self.now.nodes in
     let hs = heads_of c.args.self.now in
-    let k = subst (Scan ns hs c.args.key c.loop-c.node c.loop-c.low) c.loop-c-test.true c.loop-c.invariant.0 in
-    let hi = k.high in
-    let o = c.parent-node.ensures in
-    let r = c.next_child-c-in-loop-c.result in
-    let z = c.next_child-c-in-loop-c.ensures in
-    let b = z.bound in
-    let st : bit_and c.path.result 15 ≡ path_in ns c.loop-c.node % 16 = and_mask c.path.result 4 ∙ ap (λ y. y % 16) c.path.ensures in
-    let u = scan_up c.requires.sound c.requires.some c.args.key c.loop-c.node c.loop-c.low r k (omega arith) (omega (arith, b.0)) b.1
-    (λ d l m. ap (λ y. child_in ns y d) (sym o) ∙ z.passed d (omega arith) m) in
-    let s1 : suc c.loop-c.low ≡ c.loop-c.low + 1 = omega arith in (
-      subst (λ y. Scan ns hs c.args.key c.parent-node.result y r) s1 (subst (λ y. Scan ns hs c.args.key y (suc c.loop-c.low) r) (sym o) u),
-      z.found,
-    )
+    let k = c.loop-height.invariant.on_way (omega arith) in
+    let z = c.in-Some.ensures in
+    let at = scan_pass c.requires.sound c.requires.some c.args.key c.loop-height.node c.loop-height.height c.loop-height.from c.in-Some.later k z.0 (omega (arith, z.1)) z.2 in
+    subst (λ y. Ahead ns hs c.args.key y c.loop-height.height) (sym c.child.ensures)
+    (scan_found c.requires.sound c.requires.some c.args.key c.loop-height.node c.loop-height.height c.in-Some.later at z.1 z.3)
 
-pub returns : goal.returns
-returns g c =
+pub loop-height-preserved : goal.loop-height-preserved
+loop-height-preserved g c =
     let ns = vec_items c.args.self.now.nodes in
     let hs = heads_of c.args.self.now in
-    let k = c.loop-c.invariant.0 in
-    let l : c.loop-c.c < 16 = omega (arith, k.step, c.loop-c-test.false) in
-    subst (λ y. Ahead ns hs c.args.key y c.loop-c.low) (sym c.child.ensures)
-    (scan_found c.requires.sound c.requires.some c.args.key c.loop-c.node c.loop-c.low c.loop-c.c k l (c.loop-c.invariant.1 l))
+    let node = c.loop-height.node in
+    let low = c.loop-height.height in
+    let k = c.loop-height.invariant.on_way (omega arith) in
+    let none_left = c.in_default.ensures in
+    let past = scan_pass c.requires.sound c.requires.some c.args.key node low c.loop-height.from 16 k k.step (omega arith) none_left in
+    let o = c.parent-node.ensures in
+    let st : bit_and c.path.result 15 ≡ path_in ns node % 16 = and_mask c.path.result 4 ∙ ap (λ y. y % 16) c.path.ensures in
+    let s1 : suc low ≡ low + 1 = omega arith in
+    record {
+      on_way = λ l.
+          subst (λ y. Scan ns hs c.args.key c.parent-node.result (low + 1) (y + 1)) (sym st)
+          (subst (λ y. Scan ns hs c.args.key c.parent-node.result y (path_in ns node % 16 + 1)) s1
+          (subst (λ y. Scan ns hs c.args.key y (suc low) (path_in ns node % 16 + 1)) (sym o)
+          (scan_up c.requires.sound c.requires.some c.args.key node low past (omega arith))));
+      past_root = λ l. scan_end c.requires.sound c.requires.some c.args.key node (subst (λ y. Scan ns hs c.args.key node y 16) (let e : low ≡ 7 = omega arith in e) past);
+    }

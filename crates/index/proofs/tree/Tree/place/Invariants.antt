@@ -17,6 +17,3 @@ invariant-loop-height g l =
     × (l.self.vacant ≡ l.initial.self.vacant)
     × (l.self.unused + l.initial.height ≡ l.initial.self.unused + l.height)
     × (l.height ≤ l.self.unused + 1)
-
-abbrev pub decreases-loop-height : goal.decreases-loop-height
-decreases-loop-height g l = l.height

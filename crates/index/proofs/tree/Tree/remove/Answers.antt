@@ -34,12 +34,12 @@ free_node-node-requires g c =
     let room = unused_room c.args.self.now c.args.key (c.descend-end.result.item - c.len.result) c.requires (omega arith) f.0 held in
     let i = c.loop-height.invariant in
     let z = c.free_slot-node.ensures in
-    let big = up_big c.loop-height.height (2 ^ 32 + c.args.key) c.loop-height-test.true (omega arith) (omega arith) in
+    let big = up_big c.loop-height._height (2 ^ 32 + c.args.key) c.loop-height-test.true (omega arith) (omega arith) in
     record {
       sound = i.0;
       within = i.3;
       used = omega (arith, i.4);
-      empty = c.if-is_empty.ensures;
+      empty = c.if-has_child.ensures;
       left = omega (arith, i.7, i.8, z.len, z.unused);
     }
 
@@ -48,21 +48,21 @@ loop-height-preserved g c =
     let i = c.loop-height.invariant in
     let z = c.free_node-node.ensures in
     let t = 2 ^ 32 + c.args.key in
-    let h : suc c.loop-height.height ≡ c.loop-height.height + 1 = omega arith in (
+    let h : suc c.loop-height._height ≡ c.loop-height._height + 1 = omega arith in (
       z.sound,
       omega arith,
       omega arith,
       z.within,
       z.path ∙ (ap (λ x. x / 16) i.4 ∙ ap (λ x. up x t) h),
-      (λ g e. let q : g ≡ c.loop-height.height = omega arith in
+      (λ g e. let q : g ≡ c.loop-height._height = omega arith in
           ap (λ x. child_in (vec_items c.free_node-node.new.self.nodes) c.free_node-node.result (x % 16)) (ap (λ x. up x t) q ∙ sym i.4) ∙ z.gap),
       z.slots ∙ i.6,
       z.len ∙ i.7,
       omega (arith, i.8, z.unused),
     )
 
-pub returns-else-is_empty : goal.returns-else-is_empty
-returns-else-is_empty g c =
+pub returns-then-has_child : goal.returns-then-has_child
+returns-then-has_child g c =
     let v = c.args.self.now.nodes.ok.0 in
     let f = end_found c.requires.sound c.descend-end.ensures (omega arith) in
     let e : length (vec_items c.args.self.now.nodes) ≡ c.len.result = omega arith in
@@ -71,8 +71,8 @@ returns-else-is_empty g c =
     let i = c.loop-height.invariant in
     let z = c.free_slot-node.ensures in
     let r = removed c.args.self.now c.args.key (c.descend-end.result.item - c.len.result) c.requires (omega arith) f.0 held
-    c.loop-height.self c.loop-height.node c.loop-height.height i.0 i.1 i.2 i.3 i.4 i.5
-    (ap (λ x. marks (heads (vec_items x))) i.6 ∙ z.marks) (ap (λ x. records (vec_items x)) i.6 ∙ z.records) (i.7 ∙ z.len) (omega (arith, i.8, z.unused)) (inr c.if-is_empty.ensures) in
+    c.loop-height.self c.loop-height.node c.loop-height._height i.0 i.1 i.2 i.3 i.4 i.5
+    (ap (λ x. marks (heads (vec_items x))) i.6 ∙ z.marks) (ap (λ x. records (vec_items x)) i.6 ∙ z.records) (i.7 ∙ z.len) (omega (arith, i.8, z.unused)) (inr c.if-has_child.ensures) in
     record { whole = r.0; sizes = (r.1.nodes_are, slots_len (heads_of c.args.self.now) (heads_of c.loop-height.self) (c.descend-end.result.item - c.len.result) 0 r.1.marks_are); cases = r.1 }
 
 pub returns-after-loop-height : goal.returns-after-loop-height
@@ -85,6 +85,6 @@ returns-after-loop-height g c =
     let i = c.loop-height.invariant in
     let z = c.free_slot-node.ensures in
     let r = removed c.args.self.now c.args.key (c.descend-end.result.item - c.len.result) c.requires (omega arith) f.0 held
-    c.loop-height.self c.loop-height.node c.loop-height.height i.0 i.1 i.2 i.3 i.4 i.5
+    c.loop-height.self c.loop-height.node c.loop-height._height i.0 i.1 i.2 i.3 i.4 i.5
     (ap (λ x. marks (heads (vec_items x))) i.6 ∙ z.marks) (ap (λ x. records (vec_items x)) i.6 ∙ z.records) (i.7 ∙ z.len) (omega (arith, i.8, z.unused)) (inl (omega arith)) in
     record { whole = r.0; sizes = (r.1.nodes_are, slots_len (heads_of c.args.self.now) (heads_of c.loop-height.self) (c.descend-end.result.item - c.len.result) 0 r.1.marks_are); cases = r.1 }

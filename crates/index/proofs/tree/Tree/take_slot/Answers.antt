@@ -5,30 +5,29 @@ use Rattle.index.specs.Slots.{heads}
 use Rattle.index.proofs.Adding.{SlotTaken, slot_taken}
 use Rattle.index.proofs.tree.Tree.take_slot.Goals as goal
 
-pub set_mark-requires : goal.set_mark-requires
-set_mark-requires g c =
+pub set_key-requires : goal.set_key-requires
+set_key-requires g c =
     let w = c.requires.sound.slots_free.within (c.args.self.now.vacant - 1) (omega arith) in
     record { slot_within = omega arith }
 
 pub returns : goal.returns
 returns g c =
     let v = c.args.self.now.nodes.ok.0 in
-    let g : SlotTaken (vec_items c.args.self.now.nodes) (vec_items c.set_child.new.nodes) (heads_of c.args.self.now) (heads (vec_items c.set_mark.new.slots))
+    let g : SlotTaken (vec_items c.args.self.now.nodes) (vec_items c.set_child.new.nodes) (heads_of c.args.self.now) (heads (vec_items c.set_key.new.slots))
     c.args.node ((2 ^ 32 + c.args.key) % 16) c.free_slot-p.result (2 ^ 32 + c.args.key) = record {
-      masked = c.set_child.ensures.masked;
       len = c.set_child.ensures.len;
       paths = c.set_child.ensures.paths;
       parents = c.set_child.ensures.parents;
       frees = c.set_child.ensures.frees;
       child_x = ap (child_in (vec_items c.set_child.new.nodes) c.args.node) (sym c.step.ensures) ∙ (c.set_child.ensures.here ∙ (let e : c.len-n.result ≡ length (vec_items c.args.self.now.nodes) = omega arith in ap (λ y. y + c.free_slot-p.result) e));
       child_o = λ j d ne. c.set_child.ensures.rest j d (λ q. ne (q.0, q.1 ∙ c.step.ensures));
-      plen = c.set_mark.ensures.len;
-      mark_x = c.set_mark.ensures.mark_here ∙ c.path_above.ensures;
-      mark_o = c.set_mark.ensures.mark_rest;
-      slot_parent_x = c.set_mark.ensures.here;
-      slot_parent_o = c.set_mark.ensures.rest;
-      vacant = c.set_mark.ensures.frees;
+      plen = c.set_key.ensures.len;
+      mark_x = c.set_key.ensures.mark_here;
+      mark_o = c.set_key.ensures.mark_rest;
+      slot_parent_x = c.set_key.ensures.here;
+      slot_parent_o = c.set_key.ensures.rest;
+      vacant = c.set_key.ensures.frees;
     } in
     let r = slot_taken g c.args.key c.requires.sound (let e : c.args.self.now.vacant ≡ suc (c.args.self.now.vacant - 1) = omega arith in e) c.free_slot-p.ensures c.requires.within
     (omega arith) (omega arith) (omega arith) c.requires.gap refl in
-    record { sound = r.0; within = r.1; was = r.2; marks = r.3; records = c.set_mark.ensures.values; len = g.len; unused = refl }
+    record { sound = r.0; within = r.1; was = r.2; marks = r.3; records = c.set_key.ensures.values; len = g.len; unused = refl }

@@ -1,7 +1,8 @@
 use Rattle.std.proofs.Common.{◌<◌, length, vec_items, ap, arith}
 use Rattle.std.proofs.lemmas.List.{length-map}
+use Rattle.index.specs.Slots.{key_mark}
 use Rattle.index.proofs.Heads.{head_was}
-use Rattle.index.proofs.slot.mark.Goals as goal
+use Rattle.index.proofs.slot.key_in.Goals as goal
 
 pub index-requires : goal.index-requires
 index-requires g c =
@@ -11,4 +12,4 @@ index-requires g c =
 pub returns : goal.returns
 returns g c =
     let l : c.args.slot < length (vec_items c.args.slots.now) = omega (arith, length-map (vec_items c.args.slots.now) (λ s. s.head)) in
-    ap (λ h. h.mark) (head_was (vec_items c.args.slots.now) c.args.slot c.index.result.now l c.index.ensures)
+    ap (λ h. key_mark h.key) (head_was (vec_items c.args.slots.now) c.args.slot c.index.result.now l c.index.ensures)
