@@ -23,6 +23,7 @@ pub trait Backend {
     fn get(&mut self, key: Key, out: &mut [u8]) -> Result<bool, Refusal>
         ensures { GetOutcome rules (state self.old) key out.old result (state self.new) out.new };
 
+    // Three drops, and not one with a reach: the rules have each as a call of its own.
     /// Lets the page under a key go.
     fn drop_page(&mut self, key: Key)
         ensures { state self.new ≡ rules.drop_page_next (state self.old) key.number };

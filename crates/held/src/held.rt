@@ -8,7 +8,7 @@ use index::Index;
 /// Keys that are held, oldest put first, each at a place below `size`. The place stays while the key is held, and is used again after.
 #[derive(Drop)]
 pub struct Held {
-    // how many keys at most
+    // how many keys at most; the table has two records more, and `table.len() - 2` at each use would be no plainer
     pub(crate) size: usize,
     pub(crate) count: usize,
     // the records of the places, then the ends of the rings of held and of free places
