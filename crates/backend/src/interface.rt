@@ -19,6 +19,7 @@ pub trait Backend {
     fn put(&mut self, key: Key, page: &[u8]) -> Result<(), Refusal>
         ensures { PutOutcome rules (state self.old) key page.now result (state self.new) };
 
+    // A flag, and no `Option` of a page: the page goes into the buffer that the caller hands over.
     /// Copies the page under a key out and says whether there was one. An ephemeral page goes.
     fn get(&mut self, key: Key, out: &mut [u8]) -> Result<bool, Refusal>
         ensures { GetOutcome rules (state self.old) key out.old result (state self.new) out.new };

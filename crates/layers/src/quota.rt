@@ -55,7 +55,7 @@ impl<B: Backend> Quota<B> {
             return false;
         }
         let pool = key.pool();
-        self.limits[pool as usize] <= self.below.pool_pages(pool)
+        self.limits[usize::from(pool)] <= self.below.pool_pages(pool)
     }
 }
 

@@ -33,6 +33,7 @@ pub trait HeldPages {
         ensures entries { entries self.new ≡ without (one key.number) (entries self.old) }
         ensures fixed { fixed self.new ≡ fixed self.old };
 
+    // A flag, and no `Option` of a page: the page goes into the caller's buffer at once, and is copied only there.
     /// Copies the page under a key out, and says whether there was one.
     fn read(&self, key: Key, out: &mut [u8]) -> bool
         ensures answer { result ≡ found key.number out.old (entries self.now) }
