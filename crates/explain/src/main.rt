@@ -10,11 +10,11 @@ use std::fmt;
 use std::io::{Read, Write};
 use std::process::ExitCode;
 
-// What a command asks for, in words.
+// What a command asks for, or what a level is, in words.
 #[derive(Drop)]
-struct Words(Command);
+struct Words<T>(T);
 
-impl fmt::Display for Words {
+impl fmt::Display for Words<Command> {
     fn fmt<W: fmt::Write>(&self, f: &mut fmt::Formatter<W>) -> fmt::Result {
         match self.0 {
             Command::Admit { guest } => write!(f, "admit guest {guest}"),
@@ -63,23 +63,20 @@ impl fmt::Display for Words {
     }
 }
 
-fn level_words(level: Level) -> &'static str {
-    match level {
-        Level::Bare => "level 1: frames, files and swap",
-        Level::Shared => "level 2: evicted pages kept in spare memory",
-        Level::Packed => "level 3: equal anonymous pages stored once",
+impl fmt::Display for Words<Level> {
+    fn fmt<W: fmt::Write>(&self, f: &mut fmt::Formatter<W>) -> fmt::Result {
+        match self.0 {
+            Level::Bare => write!(f, "level 1: frames, files and swap"),
+            Level::Shared => write!(f, "level 2: evicted pages kept in spare memory"),
+            Level::Packed => write!(f, "level 3: equal anonymous pages stored once"),
+        }
     }
 }
 
-fn refuse(report: &mut Vec<u8>, line: u16, answer: u8, values: Values) -> Result<(), AllocError> {
+fn append(report: &mut Vec<u8>, line: OutputLine) -> Result<(), AllocError> {
     let mut buffer = [0; LINE_BYTES];
-    let length = OutputLine {
-        line,
-        answer,
-        values,
-    }
-    .write(&mut buffer);
-    report.extend_from_slice(&buffer[0..length])
+    let length = line.write(&mut buffer);
+    report.extend_from_slice(&buffer[..length])
 }
 
 fn explain_line(heap: Global, report: &mut Vec<u8>, line: Line<'_>) -> Result<(), AllocError> {
@@ -90,28 +87,36 @@ fn explain_line(heap: Global, report: &mut Vec<u8>, line: Line<'_>) -> Result<()
             let text = format!(in heap; "{number:>6} {words}\n")?;
             report.extend_from_slice(text.as_bytes())
         }
-        Err(refusal) => refuse(
+        Err(refusal) => append(
             report,
-            number,
-            refusal.number(),
-            Values::Number(u32::from(refusal.value())),
+            OutputLine {
+                line: number,
+                answer: refusal.number(),
+                values: Values::Number(u32::from(refusal.value())),
+            },
         ),
     }
 }
 
 fn explain(heap: Global, bytes: &[u8]) -> Result<Vec<u8>, AllocError> {
     let mut report = Vec::new(heap);
-    let mut script = Script::open(bytes);
-    match script.level() {
-        Ok(level) => {
-            let words = level_words(level);
+    match Script::open(bytes) {
+        Ok(script) => {
+            let words = Words(script.level());
             let text = format!(in heap; "{:>6} {words}\n", 1)?;
             report.extend_from_slice(text.as_bytes())?;
+            for line in script {
+                explain_line(heap, &mut report, line)?;
+            }
         }
-        Err(refusal) => refuse(&mut report, 1, refusal.number(), Values::Nothing)?,
-    }
-    while let Some(line) = script.next_line() {
-        explain_line(heap, &mut report, line)?;
+        Err(refusal) => append(
+            &mut report,
+            OutputLine {
+                line: 1,
+                answer: refusal.number(),
+                values: Values::Nothing,
+            },
+        )?,
     }
     Ok(report)
 }
