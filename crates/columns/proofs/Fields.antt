@@ -1,7 +1,7 @@
 -- A number written into a field from its last digit to its first, over spaces.
 use Rattle.std.proofs.Common.{◌≡◌, ℕ, ◌+◌, ◌-◌, ◌/◌, ◌%◌, ◌^◌, ◌<◌, ◌≤◌, List, [], ◌∷◌, ◌++◌, length, set, replicate, decimal, sym, ap, ◌∙◌, mod-eq_of_lt, arith}
 use Rattle.std.proofs.lemmas.Fmt.{decimal_digit, decimal_step, decimal_nonempty}
-use Rattle.std.proofs.lemmas.List.{append-nil, append_assoc, length-append, length-replicate, length-set, replicate_more, set_at}
+use Rattle.std.proofs.lemmas.List.{append_assoc, length-append, length-replicate, length-set, replicate_more, set_at}
 use Rattle.columns.specs.Columns.{right}
 
 -- The field is blank up to `place`, and holds there the last digits of `number`; the digits of `rest` are those that are left to write.
@@ -12,10 +12,6 @@ pub record Begun (number rest place : ℕ) (field : List ℕ) : Type 0 where
   pub fits : length (decimal number) ≤ length field
   pub small : rest < 2 ^ 64
 
-pub begun_none : (n w : ℕ) (field : List ℕ) → field ≡ replicate w 32 → length (decimal n) ≤ length field → n < 2 ^ 64 → Begun n n w field
-begun_none n w field e f s =
-    record { done = []; blank = e ∙ sym (append-nil (replicate w 32)); digits = sym (append-nil (decimal n)); fits = f; small = s }
-
 -- a byte put before what is done
 put : (q d : ℕ) (done : List ℕ) → set (replicate (q + 1) 32 ++ done) q d ≡ replicate q 32 ++ d ∷ done
 put q d done =
@@ -23,7 +19,7 @@ put q d done =
     ∙ set_at (replicate q 32) 32 done d q (length-replicate q 32)
 
 module _ {n r p : ℕ} {field : List ℕ} (b : Begun n r p field) where
-  pub long : length field ≡ p + length b.done
+  long : length field ≡ p + length b.done
   long = ap length b.blank ∙ length-append (replicate p 32) b.done ∙ ap (λ k. k + length b.done) (length-replicate p 32)
 
   pub room : 0 < p

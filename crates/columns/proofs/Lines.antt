@@ -1,13 +1,12 @@
 -- The whole line, written to a buffer of 110 bytes: the number, the answer, the values and the line feed.
-use Rattle.std.proofs.Common.{◌≡◌, ℕ, ◌+◌, ◌*◌, ◌≤◌, List, [], ◌∷◌, ◌++◌, length, drop, set, decimal, sym, ap, ◌∙◌, subst, arith}
+use Rattle.std.proofs.Common.{◌≡◌, ℕ, ◌+◌, ◌≤◌, List, [], ◌∷◌, ◌++◌, length, drop, set, decimal, sym, ap, ◌∙◌, arith}
 use borrow.Rule.Slice.PartMut.{mid_of, post_of, put_mid}
 use Rattle.std.specs.List.{flat_map}
 use Rattle.std.proofs.lemmas.List.{length-append, length-drop, length-take}
-use Rattle.columns.specs.Columns.{right, value_text, values_of, line_text, Valued, Printable}
+use Rattle.columns.specs.Columns.{right, value_text, values_of, line_text, Printable}
 use Rattle.columns.specs.declared.OutputLine.{OutputLine}
-use Rattle.columns.specs.declared.Values.{Values}
 use Rattle.columns.proofs.Apart.{length_number}
-use Rattle.columns.proofs.Appends.{appended, start_length, ended}
+use Rattle.columns.proofs.Appends.{appended, ended}
 
 pub mid_length : (a k : ℕ) (xs : List ℕ) → a + k ≤ length xs → length (mid_of a k xs) ≡ k
 mid_length a k xs within = simp (length-take, length-drop) (omega arith)
@@ -15,17 +14,6 @@ mid_length a k xs within = simp (length-take, length-drop) (omega arith)
 -- a first field of 6 bytes, written, leaves the second of 4
 pub second_length : (one buffer : List ℕ) → length one ≡ 6 → length buffer ≡ 110 → length (mid_of 6 4 (one ++ post_of 0 6 buffer)) ≡ 4
 second_length one buffer l6 l110 = mid_length 6 4 (one ++ post_of 0 6 buffer) (simp (length-append, length-drop) (omega arith))
-
--- what a row of values leaves, said of the values that it was made from
-pub values_written : (v w : Values) (n : ℕ) (after buffer : List ℕ) → v ≡ w → n ≡ 11 * length (values_of w)
-    → after ≡ flat_map value_text (values_of w) ++ drop (11 * length (values_of w)) buffer → length after ≡ length buffer → n ≤ length buffer → Valued w
-    → (n ≡ length (flat_map value_text (values_of v))) × (after ≡ flat_map value_text (values_of v) ++ drop n buffer) × Valued v
-values_written v w n after buffer is wide bytes kept within fits =
-    let row = flat_map value_text (values_of w) in
-    let put : after ≡ row ++ drop n buffer = bytes ∙ ap (λ k. row ++ drop k buffer) (sym wide) in
-    let Said : Values → Type 0
-    = λ u. (n ≡ length (flat_map value_text (values_of u))) × (after ≡ flat_map value_text (values_of u) ++ drop n buffer) × Valued u in
-    subst Said (sym is) (sym (start_length row after buffer n put kept within), put, fits)
 
 module _
     (o : OutputLine) (one two part buffer : List ℕ) (r : ℕ) (printable : Printable o) (whole : length buffer ≡ 110)

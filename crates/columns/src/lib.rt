@@ -1,7 +1,7 @@
 //! Lines of output: a number, an answer and values in columns of fixed width.
 //!
 //! The clauses `fits` of the private functions say that the numbers which were written fit their types.
-//! `OutputLine::write` needs that of all values to show that no two lines print alike.
+//! `OutputLine::write` needs that of all values to show that no two lines print alike, and the prover knows it of a number only where it is read.
 #![tactic(auto)]
 
 ghost use Rattle.std.specs.Prelude.{◌≡◌, ◌*◌, ◌≤◌, ◌++◌, length, drop, decimal};
@@ -26,25 +26,25 @@ pub enum Values {
 #[derive(Clone, Copy)]
 pub struct OutputLine {
     pub line: u16,
+    // A number as it is printed: an Option of a refusal's number would be taken apart here and made anew by each caller.
     pub answer: u8,
     pub values: Values,
 }
 
 // Writes the number over the whole field, from its last digit to its first, with spaces in front.
 // The digit is written before the test, since 0 has one digit too.
+// The digits are put in place by hand: the contract of `write!` says what was written where it succeeds, and not that it does.
 fn put_number(field: &mut [u8], number: u32)
     requires { length (decimal number) ≤ length field.old }
     ensures { field.new ≡ right (length field.old) (decimal number) }
 {
     field.fill(b' ');
-    let mut place = field.len();
     let mut rest = number;
-    loop {
-        place -= 1;
+    for place in (0..field.len()).rev() {
         field[place] = b'0' + (rest % 10) as u8;
         rest /= 10;
         if rest == 0 {
-            break;
+            return;
         }
     }
 }
@@ -71,10 +71,9 @@ fn put_counts(buffer: &mut [u8], counts: &[Count])
     ensures bytes { buffer.new ≡ flat_map value_text counts.now ++ drop (11 * length counts.now) buffer.old }
     ensures fits { AllByRecursion Counted counts.now }
 {
-    let mut start = 0;
-    for count in counts {
+    for (i, count) in counts.iter().enumerate() {
+        let start = 11 * i;
         put_count(&mut buffer[start..start + 11], *count);
-        start += 11;
     }
 }
 
@@ -107,9 +106,9 @@ impl OutputLine {
         ensures bytes { buffer.new ≡ line_text self.now ++ drop (length (line_text self.now)) buffer.old }
         ensures apart { (other : OutputLine) → Printable other → line_text other ≡ line_text self.now → other ≡ self.now }
     {
-        put_number(&mut buffer[0..6], u32::from(self.line));
+        put_number(&mut buffer[..6], u32::from(self.line));
         put_number(&mut buffer[6..10], u32::from(self.answer));
-        let end = 10 + put_values(&mut buffer[10..LINE_BYTES], &self.values);
+        let end = 10 + put_values(&mut buffer[10..], &self.values);
         buffer[end] = b'\n';
         end + 1
     }

@@ -72,12 +72,13 @@ pub enum LineRefusal {
 
 impl LineRefusal {
     /// The number that the refusal is told by.
+    // A match, and no discriminants: Rust's `as` takes no enum with a field.
     pub fn number(self) -> u8
         ensures { result ≡ line_refusal_number self }
     {
         match self {
             LineRefusal::UnknownLetter => 31,
-            LineRefusal::BadField { field: _ } => 32,
+            LineRefusal::BadField { .. } => 32,
         }
     }
 

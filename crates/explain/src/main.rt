@@ -3,57 +3,51 @@
 
 use anyhow::anyhow;
 use columns::{LINE_BYTES, OutputLine, Values};
-use command::Command;
+use command::{AnonymousPage, ByteWrite, Command, FilePage};
 use script::{Level, Line, SCRIPT_BYTES, Script, read_line};
 use std::alloc::{AllocError, Global};
 use std::fmt;
 use std::io::{Read, Write};
 use std::process::ExitCode;
 
-// What a command asks for, in words.
+// What a command asks for, or what a level is, in words.
 #[derive(Drop)]
-struct Words(Command);
+struct Words<T>(T);
 
-impl fmt::Display for Words {
+impl fmt::Display for Words<Command> {
     fn fmt<W: fmt::Write>(&self, f: &mut fmt::Formatter<W>) -> fmt::Result {
         match self.0 {
             Command::Admit { guest } => write!(f, "admit guest {guest}"),
             Command::Leave { guest } => write!(f, "let guest {guest} leave"),
-            Command::ReadFile { page } => {
-                let (guest, file, page) = (page.guest, page.file, page.page);
-                write!(f, "read page {page} of file {file} of guest {guest}")
-            }
-            Command::ReadAnonymous { page } => {
-                let (guest, page) = (page.guest, page.page);
-                write!(f, "read anonymous page {page} of guest {guest}")
-            }
-            Command::WriteFile { page, write } => {
-                let (guest, file, page) = (page.guest, page.file, page.page);
-                let (at, byte) = (write.at, write.byte);
-                write!(
-                    f,
-                    "write {byte} to byte {at} of page {page} of file {file} of guest {guest}"
-                )
-            }
-            Command::WriteAnonymous { page, write } => {
-                let (guest, page) = (page.guest, page.page);
-                let (at, byte) = (write.at, write.byte);
-                write!(
-                    f,
-                    "write {byte} to byte {at} of anonymous page {page} of guest {guest}"
-                )
-            }
-            Command::Truncate { from } => {
-                let (guest, file, page) = (from.guest, from.file, from.page);
-                write!(
-                    f,
-                    "truncate file {file} of guest {guest} from page {page} on"
-                )
-            }
-            Command::Release { page } => {
-                let (guest, page) = (page.guest, page.page);
-                write!(f, "release anonymous page {page} of guest {guest}")
-            }
+            Command::ReadFile {
+                page: FilePage { guest, file, page },
+            } => write!(f, "read page {page} of file {file} of guest {guest}"),
+            Command::ReadAnonymous {
+                page: AnonymousPage { guest, page },
+            } => write!(f, "read anonymous page {page} of guest {guest}"),
+            Command::WriteFile {
+                page: FilePage { guest, file, page },
+                write: ByteWrite { at, byte },
+            } => write!(
+                f,
+                "write {byte} to byte {at} of page {page} of file {file} of guest {guest}"
+            ),
+            Command::WriteAnonymous {
+                page: AnonymousPage { guest, page },
+                write: ByteWrite { at, byte },
+            } => write!(
+                f,
+                "write {byte} to byte {at} of anonymous page {page} of guest {guest}"
+            ),
+            Command::Truncate {
+                from: FilePage { guest, file, page },
+            } => write!(
+                f,
+                "truncate file {file} of guest {guest} from page {page} on"
+            ),
+            Command::Release {
+                page: AnonymousPage { guest, page },
+            } => write!(f, "release anonymous page {page} of guest {guest}"),
             Command::Sync { guest } => write!(
                 f,
                 "write back the dirty file pages of guest {guest}"
@@ -63,55 +57,63 @@ impl fmt::Display for Words {
     }
 }
 
-fn level_words(level: Level) -> &'static str {
-    match level {
-        Level::Bare => "level 1: frames, files and swap",
-        Level::Shared => "level 2: evicted pages kept in spare memory",
-        Level::Packed => "level 3: equal anonymous pages stored once",
+impl fmt::Display for Words<Level> {
+    fn fmt<W: fmt::Write>(&self, f: &mut fmt::Formatter<W>) -> fmt::Result {
+        match self.0 {
+            Level::Bare => write!(f, "level 1: frames, files and swap"),
+            Level::Shared => write!(f, "level 2: evicted pages kept in spare memory"),
+            Level::Packed => write!(f, "level 3: equal anonymous pages stored once"),
+        }
     }
 }
 
-fn refuse(report: &mut Vec<u8>, line: u16, answer: u8, values: Values) -> Result<(), AllocError> {
+fn append_words<T: fmt::Display + Drop>(
+    heap: Global,
+    report: &mut Vec<u8>,
+    number: u16,
+    words: T,
+) -> Result<(), AllocError> {
+    let text = format!(in heap; "{number:>6} {words}\n")?;
+    report.extend_from_slice(text.as_bytes())
+}
+
+fn append_line(report: &mut Vec<u8>, line: OutputLine) -> Result<(), AllocError> {
     let mut buffer = [0; LINE_BYTES];
-    let length = OutputLine {
-        line,
-        answer,
-        values,
-    }
-    .write(&mut buffer);
-    report.extend_from_slice(&buffer[0..length])
+    let length = line.write(&mut buffer);
+    report.extend_from_slice(&buffer[..length])
 }
 
 fn explain_line(heap: Global, report: &mut Vec<u8>, line: Line<'_>) -> Result<(), AllocError> {
-    let number = line.number;
     match read_line(line.text) {
-        Ok(command) => {
-            let words = Words(command);
-            let text = format!(in heap; "{number:>6} {words}\n")?;
-            report.extend_from_slice(text.as_bytes())
-        }
-        Err(refusal) => refuse(
+        Ok(command) => append_words(heap, report, line.number, Words(command)),
+        Err(refusal) => append_line(
             report,
-            number,
-            refusal.number(),
-            Values::Number(u32::from(refusal.value())),
+            OutputLine {
+                line: line.number,
+                answer: refusal.number(),
+                values: Values::Number(u32::from(refusal.value())),
+            },
         ),
     }
 }
 
 fn explain(heap: Global, bytes: &[u8]) -> Result<Vec<u8>, AllocError> {
     let mut report = Vec::new(heap);
-    let mut script = Script::open(bytes);
-    match script.level() {
-        Ok(level) => {
-            let words = level_words(level);
-            let text = format!(in heap; "{:>6} {words}\n", 1)?;
-            report.extend_from_slice(text.as_bytes())?;
+    match Script::open(bytes) {
+        Ok(script) => {
+            append_words(heap, &mut report, 1, Words(script.level()))?;
+            for line in script {
+                explain_line(heap, &mut report, line)?;
+            }
         }
-        Err(refusal) => refuse(&mut report, 1, refusal.number(), Values::Nothing)?,
-    }
-    while let Some(line) = script.next_line() {
-        explain_line(heap, &mut report, line)?;
+        Err(refusal) => append_line(
+            &mut report,
+            OutputLine {
+                line: 1,
+                answer: refusal.number(),
+                values: Values::Nothing,
+            },
+        )?,
     }
     Ok(report)
 }
@@ -119,14 +121,11 @@ fn explain(heap: Global, bytes: &[u8]) -> Result<Vec<u8>, AllocError> {
 // One byte more than a script may have is enough to refuse it.
 fn read_script(rt: &HostRuntime) -> anyhow::Result<Vec<u8>> {
     let mut bytes = Vec::new(rt.alloc());
-    match rt
-        .stdin()
+    rt.stdin()
         .take(SCRIPT_BYTES as u64 + 1)
         .read_to_end(&mut bytes)
-    {
-        Ok(_) => Ok(bytes),
-        Err(error) => Err(anyhow!(format!(in rt.alloc(); "the script cannot be read: {error}")?)),
-    }
+        .map_err(|error| anyhow!("the script cannot be read: {error}"))?;
+    Ok(bytes)
 }
 
 fn run(rt: &HostRuntime) -> anyhow::Result<()> {

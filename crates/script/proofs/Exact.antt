@@ -29,7 +29,7 @@ making_ok r x s f e = ap (λ (r : Read _). making r f) e
 then_only : {X Y : Type 0} (r : Read X) (f : X → Cursor → Read Y) (y : Y) (t : Cursor) → then r f ≡ Ok (y, t)
     → (x : X) × (s : Cursor) × (r ≡ Ok (x, s)) × (f x s ≡ Ok (y, t))
 then_only (Ok p) f y t e = (p.0, p.1, refl, e)
-then_only (Err d) f y t e = let z : ◌≡◌ {A = ℕ} 0 1 = cc in absurd (omega arith)
+then_only (Err d) f y t e = cc
 
 ok_same : {X : Type 0} (p q : X × Cursor) → ◌≡◌ {A = Read X} (Ok p) (Ok q) → p ≡ q
 ok_same p q e = cc
@@ -39,20 +39,20 @@ making_only : {X Y : Type 0} (r : Read X) (f : X → Y) (y : Y) (t : Cursor) →
 making_only {X} {Y} (Ok p) f y t e =
     let same = ok_same (f p.0, p.1) (y, t) e in
     (p.0, ap (λ (s : Cursor). Ok (p.0, s)) (ap (λ (q : Y × Cursor). q.1) same), sym (ap (λ (q : Y × Cursor). q.0) same))
-making_only (Err d) f y t e = let z : ◌≡◌ {A = ℕ} 0 1 = cc in absurd (omega arith)
+making_only (Err d) f y t e = cc
 
 -- one number
 number_step : (n v : ℕ) (fs : List (List ℕ)) → v < 2 ^ 16 → number (at n (decimal v ∷ fs)) ≡ Ok (v, at (n + 1) fs)
 number_step n v fs h = ap (field_read n fs) (number_back v h)
 
 field_only : (n : ℕ) (fs : List (List ℕ)) (o : Option ℕ) (v : ℕ) (t : Cursor) → field_read n fs o ≡ Ok (v, t) → (o ≡ Some v) × (fs ≡ t.fields)
-field_only n fs None v t e = let z : ◌≡◌ {A = ℕ} 0 1 = cc in absurd (omega arith)
+field_only n fs None v t e = cc
 field_only n fs (Some w) v t e =
     let same = ok_same (w, at (n + 1) fs) (v, t) e in
     (ap (λ (q : ℕ × Cursor). Some q.0) same, ap (λ (q : ℕ × Cursor). q.1.fields) same)
 
 from_only : (n : ℕ) (fs : List (List ℕ)) (v : ℕ) (t : Cursor) → number_from n fs ≡ Ok (v, t) → (fs ≡ decimal v ∷ t.fields) × (v < 2 ^ 16)
-from_only n [] v t e = let z : ◌≡◌ {A = ℕ} 0 1 = cc in absurd (omega arith)
+from_only n [] v t e = cc
 from_only n (f ∷ fs) v t e =
     let p = field_only n fs (number_of f) v t e in
     let q = number_only f v p.0 in
@@ -69,10 +69,10 @@ byte_step n b fs h =
 
 granted : {X : Type 0} (b : Bool) (x : Result X LineRefusal) (d : LineRefusal) (y : X) → cond b x (Err d) ≡ Ok y → (b ≡ true) × (x ≡ Ok y)
 granted true x d y e = (refl, e)
-granted false x d y e = let z : ◌≡◌ {A = ℕ} 0 1 = cc in absurd (omega arith)
+granted false x d y e = cc
 
 small_only : (n : ℕ) (r : Read ℕ) (b : ℕ) (t : Cursor) → at_most_255 n r ≡ Ok (b, t) → (r ≡ Ok (b, t)) × (b < 2 ^ 8)
-small_only n (Err d) b t e = let z : ◌≡◌ {A = ℕ} 0 1 = cc in absurd (omega arith)
+small_only n (Err d) b t e = cc
 small_only n (Ok p) b t e =
     let g = granted (ltb p.0 256) (Ok p) _ (b, t) e in
     let same : p.0 ≡ b = ap (λ (q : ℕ × Cursor). q.0) (ok_same p (b, t) g.1) in
@@ -204,7 +204,7 @@ command_only a s c t =
     (by_test (eqb a 70) _ _ _ P (λ k. anonymous Release (λ p. (eqb-true a 70 k, refl, λ h. h)))
     (by_test (eqb a 83) _ _ _ P (λ k. one Sync (λ g. (eqb-true a 83 k, refl, λ h. h)))
     (by_test (eqb a 67) _ _ _ P (λ k. one Counts (λ g. (eqb-true a 67 k, refl, λ h. h)))
-    (λ e. let z : ◌≡◌ {A = ℕ} 0 1 = cc in absurd (omega arith)))))))))))
+    (λ e. cc))))))))))
 
 -- every command has numbers, and they are short
 some_number : (c : Command) → (n : ℕ) × (ns : List ℕ) × (command_numbers c ≡ n ∷ ns)
@@ -260,14 +260,14 @@ reads_back c h =
 -- a command that is all of its line leaves no field
 no_field : (fs : List (List ℕ)) → some fs ≡ false → fs ≡ []
 no_field [] e = refl
-no_field (f ∷ fs) e = let z : ◌≡◌ {A = ℕ} 0 1 = cc in absurd (omega arith)
+no_field (f ∷ fs) e = cc
 
 not_refused : {X : Type 0} (b : Bool) (d : LineRefusal) (x : Result X LineRefusal) (y : X) → cond b (Err d) x ≡ Ok y → (b ≡ false) × (x ≡ Ok y)
-not_refused true d x y e = let z : ◌≡◌ {A = ℕ} 0 1 = cc in absurd (omega arith)
+not_refused true d x y e = cc
 not_refused false d x y e = (refl, e)
 
 whole_only : (r : Read Command) (c : Command) → whole r ≡ Ok c → (t : Cursor) × (r ≡ Ok (c, t)) × (t.fields ≡ [])
-whole_only (Err d) c e = let z : ◌≡◌ {A = ℕ} 0 1 = cc in absurd (omega arith)
+whole_only (Err d) c e = cc
 whole_only (Ok p) c e =
     let g = not_refused (some p.1.fields) _ (Ok p.0) c e in
     let same : p.0 ≡ c = cc g.1 in
@@ -282,12 +282,12 @@ fields_only a fs c e =
 
 -- a line that reads as a command is exactly that command's text
 pub reads_only : (s : List ℕ) (c : Command) → read_line s ≡ Ok c → (s ≡ command_text c) × CommandFits c
-reads_only [] c e = let z : ◌≡◌ {A = ℕ} 0 1 = cc in absurd (omega arith)
+reads_only [] c e = cc
 reads_only (a ∷ []) c e =
     let o = fields_only a [] c e in
     let k = some_number c in
     let none : [] ≡ decimal k.0 ∷ map decimal k.1 = o.1 ∙ ap (map decimal) k.2 in
-    let z : ◌≡◌ {A = ℕ} 0 1 = cc in absurd (omega arith)
+    cc
 reads_only (a ∷ d ∷ s) c e =
     let g = granted (eqb d 32) (whole (command a (at 1 (pieces 32 s)))) _ c e in
     let o = fields_only a (pieces 32 s) c g.1 in

@@ -1,13 +1,12 @@
 -- The lines of a script, over plain lists.
-use Rattle.std.proofs.Common.{◌≡◌, ℕ, suc, ◌+◌, ◌-◌, ◌<◌, ◌≤◌, min, Bool, true, false, cond, not, eqb, ltb, List, [], ◌∷◌, length, take, drop, Some, Err, Option, sym, refl, ap, ◌∙◌, inl, inr, add-one, one-add, arith, length-drop, length-take, lt-ltb, eqb-true, le-leb}
+use Rattle.std.proofs.Common.{◌≡◌, ℕ, suc, ◌+◌, ◌<◌, ◌≤◌, Bool, true, false, cond, not, eqb, ltb, List, [], ◌∷◌, length, take, drop, Some, Ok, sym, refl, ap, ◌∙◌, add-one, one-add, arith, lt-ltb, eqb-true, le-leb}
 use Prim.Native.Nat.compare
-use borrow.Author.Tests.{lt-leb, eqb-false}
-use Rattle.std.proofs.lemmas.List.{take_rest, nil_from_length, drop_all}
-use Rattle.std.proofs.lemmas.Bool.{cases_lt}
+use borrow.Author.Tests.{eqb-false}
+use Rattle.std.proofs.lemmas.List.{nil_from_length}
+use Rattle.std.proofs.lemmas.List.Folds.{length-prefix_len}
 use Rattle.std.specs.List.{flat_map, AllByRecursion}
 use Rattle.tokens.specs.Cuts.{before}
 use Rattle.script.specs.Lines.{Row, widened, lines_of, with_end, NoFeed, AllEnded, LinesLaw, first_text, level_line, level_or, script_level}
-use Rattle.script.specs.declared.levels.ScriptRefusal.TheVariants.{TooLong}
 use Rattle.script.specs.declared.levels.Level.{Level}
 use Rattle.script.specs.Rows.{first_row, later_rows}
 
@@ -35,26 +34,15 @@ lines_step (c ∷ d ∷ s) h =
 pub no_lines : (s : List ℕ) → length s ≡ 0 → lines_of s ≡ []
 no_lines s e = ap lines_of (nil_from_length s e)
 
-drop_min : (s : List ℕ) (n : ℕ) → drop (min (length s) n) s ≡ drop n s
-drop_min s n =
-    elim (cases_lt n (length s)) [
-      | inl lt ↦ let e : min (length s) n ≡ n = omega arith in ap (λ (m : ℕ). drop m s) e
-      | inr le ↦ let e : min (length s) n ≡ length s = omega arith in
-          ap (λ (m : ℕ). drop m s) e ∙ drop_all (length s) s (omega arith) ∙ sym (drop_all n s le)
-    ]
+pub first_line : (s text : List ℕ) → 0 < length s → text ≡ take (before 10 s) s
+    → Some (record { text = text; ended = ltb (length text) (length s) }) ≡ first_row (lines_of s)
+first_line s text some e = rw (lines_step s some, e, length-prefix_len)
 
-module _ (s : List ℕ) (k : ℕ) (some : 0 < length s) (e : k ≡ before 10 s) where
-  step : lines_of s ≡ Cut s k
-  step = lines_step s some ∙ ap (Cut s) (sym e)
+pub later_lines : (s rest : List ℕ) → 0 < length s → rest ≡ drop (before 10 s + 1) s → lines_of rest ≡ later_rows (lines_of s)
+later_lines s rest some e = rw (lines_step s some, e)
 
-  pub first_line : (b : Bool) → b ≡ ltb k (length s) → Some (record { text = take (k - 0) s; ended = b }) ≡ first_row (lines_of s)
-  first_line b f = let z : k - 0 ≡ k = omega arith in rw (step, f, z)
-
-  pub later_lines : (m : ℕ) → m ≡ min (length s) (k + 1) → lines_of (take (length s - m) (drop m s)) ≡ later_rows (lines_of s)
-  later_lines m f = rw (step, take_rest s m, f, drop_min s (k + 1))
-
-pub rest_length : (s : List ℕ) (n : ℕ) → n ≤ length s → n + length (take (length s - n) (drop n s)) ≡ length s
-rest_length s n h = rw (take_rest s n) (simp length-drop (omega arith))
+pub fewer_lines : (s rest : List ℕ) → 0 < length s → rest ≡ drop (before 10 s + 1) s → length (lines_of rest) < length (lines_of s)
+fewer_lines s rest some e = rw (lines_step s some, e) (omega arith)
 
 -- the laws of lines
 joined_widened : (c : ℕ) (ls : List Row) → flat_map with_end (widened c ls) ≡ c ∷ flat_map with_end ls
@@ -87,12 +75,12 @@ lines_feeds [] = tt
 lines_feeds (c ∷ s) = feeds_cond c (lines_of s) (eqb c 10) (eqb-false c 10) (lines_feeds s)
 
 ends_widened : (c : ℕ) (ls : List Row) → AllEnded ls → AllEnded (widened c ls)
-ends_widened c [] a = λ e t. let z : ◌≡◌ {A = ℕ} 0 1 = cc in omega arith
-ends_widened c (l ∷ []) a = λ e t. let z : ◌≡◌ {A = ℕ} 0 1 = cc in omega arith
+ends_widened c [] a = λ e t. cc
+ends_widened c (l ∷ []) a = λ e t. cc
 ends_widened c (l ∷ m ∷ ls) a = a
 
 ends_more : (ls : List Row) → AllEnded ls → AllEnded (record { text = []; ended = true } ∷ ls)
-ends_more [] a = λ e t. let z : ◌≡◌ {A = ℕ} 0 1 = cc in omega arith
+ends_more [] a = λ e t. cc
 ends_more (l ∷ ls) a = (refl, a)
 
 ends_cond : (c : ℕ) (ls : List Row) (b : Bool) → AllEnded ls → AllEnded (cond b (record { text = []; ended = true } ∷ ls) (widened c ls))
@@ -107,21 +95,15 @@ pub lines_law : (s : List ℕ) → LinesLaw s (lines_of s)
 lines_law s = record { join = lines_join s; feeds = lines_feeds s; ends = lines_ends s }
 
 -- the first line of a script that may be empty
-pub first_text_is : (s : List ℕ) (k : ℕ) → k ≡ before 10 s → first_text (lines_of s) ≡ take (k - 0) s
-first_text_is [] k e = rw e
-first_text_is (c ∷ s) k e = let z : k - 0 ≡ k = omega arith in rw (lines_step (c ∷ s) (omega arith), z, e)
+first_text_is : (s : List ℕ) → first_text (lines_of s) ≡ take (before 10 s) s
+first_text_is [] = refl
+first_text_is (c ∷ s) = ap first_text (lines_step (c ∷ s) (omega arith))
 
 -- a line that sets a level is not empty
-level_some : (t : List ℕ) (l : Level) → Some l ≡ level_line t → 0 < length t
-level_some [] l e = let z : ◌≡◌ {A = ℕ} 0 1 = cc in absurd (omega arith)
+pub level_some : (t : List ℕ) (l : Level) → Ok l ≡ level_or (level_line t) → 0 < length t
+level_some [] l e = cc
 level_some (c ∷ t) l e = omega arith
 
-pub level_longer : (s : List ℕ) (k : ℕ) (l : Level) → Some l ≡ level_line (take (k - 0) s) → (0 < k) × (0 < length s)
-level_longer s k l e = let h = simp length-take at (level_some (take (k - 0) s) l e) in (omega (arith, h), omega (arith, h))
-
 -- the level of a script, by its length and its first line
-pub too_long : (s : List ℕ) → 65536 < length s → Err TooLong ≡ script_level s
-too_long s h = rw (lt-leb (length s) 65536 h)
-
-pub level_by_line : (s : List ℕ) (k : ℕ) (o : Option Level) → length s ≤ 65536 → k ≡ before 10 s → o ≡ level_line (take (k - 0) s) → level_or o ≡ script_level s
-level_by_line s k o h e f = rw (le-leb (length s) 65536 h) (ap level_or (f ∙ ap level_line (sym (first_text_is s k e))))
+pub level_by_line : (s text : List ℕ) → length s ≤ 65536 → text ≡ take (before 10 s) s → level_or (level_line text) ≡ script_level s
+level_by_line s text h e = rw (le-leb (length s) 65536 h) (ap (λ (t : List ℕ). level_or (level_line t)) (e ∙ sym (first_text_is s)))

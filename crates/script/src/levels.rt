@@ -1,16 +1,16 @@
 //! The level of a script, and why a script is refused.
 ghost use Rattle.std.specs.Prelude.{◌≡◌};
-ghost use Rattle.script.specs.Lines.{level_number, script_refusal_number, level_line};
+ghost use Rattle.script.specs.Lines.{level_number, script_refusal_number, level_line, level_or};
 
 /// Which backends keep a guest's evicted pages.
 #[derive(Clone, Copy, PartialEq, Eq, Debug)]
 pub enum Level {
     /// None: frames, files and swap alone.
-    Bare,
+    Bare = 1,
     /// Spare memory, under a limit for each pool.
-    Shared,
+    Shared = 2,
     /// The same, with equal anonymous pages stored once.
-    Packed,
+    Packed = 3,
 }
 
 impl Level {
@@ -18,11 +18,7 @@ impl Level {
     pub fn number(self) -> u8
         ensures { result ≡ level_number self }
     {
-        match self {
-            Level::Bare => 1,
-            Level::Shared => 2,
-            Level::Packed => 3,
-        }
+        self as u8
     }
 }
 
@@ -41,23 +37,23 @@ impl ScriptRefusal {
         ensures { result ≡ script_refusal_number self }
     {
         match self {
-            ScriptRefusal::TooLong => 33,
-            ScriptRefusal::NoLevel => 33,
+            ScriptRefusal::TooLong | ScriptRefusal::NoLevel => 33,
         }
     }
 }
 
-/// The level that a line sets, or none where it is not exactly a level line.
-pub fn read_level(line: &[u8]) -> Option<Level>
-    ensures { result ≡ level_line line.now }
-{
-    match line {
-        [letter, b' ', digit] => match (char::from(*letter), char::from(*digit)) {
-            ('P', '1') => Some(Level::Bare),
-            ('P', '2') => Some(Level::Shared),
-            ('P', '3') => Some(Level::Packed),
-            _ => None,
-        },
-        _ => None,
+impl TryFrom<&[u8]> for Level {
+    type Error = ScriptRefusal;
+
+    ghost try_from_gives = { λ line result. result ≡ level_or (level_line line.now) };
+
+    /// The level that a line sets, where it is exactly a level line.
+    fn try_from(line: &[u8]) -> Result<Level, ScriptRefusal> {
+        match line {
+            b"P 1" => Ok(Level::Bare),
+            b"P 2" => Ok(Level::Shared),
+            b"P 3" => Ok(Level::Packed),
+            _ => Err(ScriptRefusal::NoLevel),
+        }
     }
 }

@@ -7,7 +7,7 @@ mod reader;
 pub mod reading;
 pub mod source;
 
-pub use levels::{Level, ScriptRefusal, read_level};
+pub use levels::{Level, ScriptRefusal};
 pub use lines::SCRIPT_BYTES;
 pub use reading::read_line;
 pub use source::{Line, Script};

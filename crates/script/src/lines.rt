@@ -1,88 +1,80 @@
 //! Scripts, read line by line.
-ghost use Rattle.std.specs.Prelude.{◌≡◌, ◌+◌, [], length, is_some, IfSome, is_ok, if◌then◌else◌, Err};
-ghost use Rattle.std.specs.Option.{option_map};
+ghost use Rattle.std.specs.Prelude.{◌≡◌, ◌+◌, ◌≤◌, length, take, drop, IfOk, MatchResult, Ok, Err};
+ghost use Rattle.std.specs.Iterator.{item_count};
+ghost use Rattle.tokens.specs.Cuts.{before};
 ghost use Rattle.script.specs.Lines.{lines_of, script_level, LinesLaw};
-ghost use Rattle.script.specs.Rows.{row, first_row, later_rows};
+ghost use Rattle.script.specs.Rows.{later_rows, TakesLine};
 
-use crate::levels::{Level, ScriptRefusal, read_level};
+use crate::levels::{Level, ScriptRefusal};
 use crate::source::{Line, Script};
 use tokens::find;
 
 /// The greatest length of a script.
 pub const SCRIPT_BYTES: usize = 65_536;
 
-// A refused script, which has no lines.
-fn refused(bytes: &[u8], refusal: ScriptRefusal) -> Script<'_>
-    ensures level { result.level ≡ Err refusal }
-    ensures rest { result.rest.now ≡ [] }
-    ensures place { result.place ≡ 0 }
-    ensures lines { result.lines ≡ 0 }
+// The first line without its end, and what follows its end.
+fn cut(bytes: &[u8]) -> (&[u8], &[u8])
+    ensures text { result.0.now ≡ take (before 10 bytes.now) bytes.now }
+    ensures rest { result.1.now ≡ drop (before 10 bytes.now + 1) bytes.now }
 {
-    Script {
-        level: Err(refusal),
-        rest: &bytes[0..0],
-        place: 0,
-        lines: 0,
-    }
+    let end = find(bytes, b'\n');
+    let next = bytes.len().min(end + 1);
+    (&bytes[..end], &bytes[next..])
 }
 
 impl<'a> Script<'a> {
     /// Opens a script: reads its level off its first line.
-    pub fn open(bytes: &'a [u8]) -> Script<'a>
-        ensures level { result.level ≡ script_level bytes.now }
-        ensures rest { lines_of result.rest.now ≡ (if is_ok result.level then later_rows (lines_of bytes.now) else []) }
-        ensures end { result.place + length result.rest.now ≡ (if is_ok result.level then length bytes.now else 0) }
-        ensures lines { result.lines ≡ (if is_ok result.level then 1 else 0) }
+    #[tactic(auto, using(crate::proofs::Rows::lines_law))]
+    pub fn open(bytes: &'a [u8]) -> Result<Script<'a>, ScriptRefusal>
+        ensures level { MatchResult result (λ script. Ok script.level ≡ script_level bytes.now) (λ refusal. Err refusal ≡ script_level bytes.now) }
+        ensures rest { IfOk result (λ script. lines_of script.rest.now ≡ later_rows (lines_of bytes.now)) }
+        ensures end { IfOk result (λ script. script.place + length script.rest.now ≡ length bytes.now) }
+        ensures lines { IfOk result (λ script. script.lines ≡ 1) }
         ensures law { LinesLaw bytes.now (lines_of bytes.now) }
     {
         if bytes.len() > SCRIPT_BYTES {
-            return refused(bytes, ScriptRefusal::TooLong);
+            return Err(ScriptRefusal::TooLong);
         }
-        let end = find(bytes, b'\n');
-        let Some(level) = read_level(&bytes[0..end]) else {
-            return refused(bytes, ScriptRefusal::NoLevel);
-        };
-        let next = bytes.len().min(end + 1);
-        Script {
-            level: Ok(level),
-            rest: &bytes[next..],
-            place: next,
+        let (first, rest) = cut(bytes);
+        let level = Level::try_from(first)?;
+        Ok(Script {
+            level,
+            rest,
+            place: bytes.len() - rest.len(),
             lines: 1,
-        }
+        })
     }
 
-    /// The level that the first line sets, or why the script is refused.
-    pub fn level(&self) -> Result<Level, ScriptRefusal>
+    /// The level that the first line sets.
+    pub fn level(&self) -> Level
         ensures { result ≡ self.now.level }
     {
         self.level
     }
+}
+
+impl<'a> Iterator for Script<'a> {
+    type Item = Line<'a>;
+
+    ghost next_gives = { TakesLine };
+
+    ghost remaining = { item_count (λ script. lines_of script.rest.now) };
 
     /// The next line, or none after the last.
-    pub fn next_line(&mut self) -> Option<Line<'a>>
-        ensures value { option_map row result ≡ first_row (lines_of self.old.rest.now) }
-        ensures after { lines_of self.new.rest.now ≡ later_rows (lines_of self.old.rest.now) }
-        ensures number { IfSome result (λ l. (l.number ≡ self.old.lines + 1) × (l.place ≡ self.old.place)) }
-        ensures lines { self.new.lines ≡ (if is_some result then self.old.lines + 1 else self.old.lines) }
-        ensures end { self.new.place + length self.new.rest.now ≡ self.old.place + length self.old.rest.now }
-        ensures level { self.new.level ≡ self.old.level }
-    {
-        let rest = self.rest;
-        if rest.is_empty() {
+    fn next(&mut self) -> Option<Line<'a>> {
+        if self.rest.is_empty() {
             return None;
         }
-        let end = find(rest, b'\n');
-        let next = rest.len().min(end + 1);
-        let place = self.place;
-        let number = self.lines + 1;
-        self.rest = &rest[next..];
-        self.place = place + next;
-        self.lines = number;
-        Some(Line {
-            text: &rest[0..end],
-            place,
-            number,
-            ended: end < rest.len(),
-        })
+        let (text, rest) = cut(self.rest);
+        let line = Line {
+            text,
+            place: self.place,
+            number: self.lines + 1,
+            ended: text.len() < self.rest.len(),
+        };
+        self.place += self.rest.len() - rest.len();
+        self.lines = line.number;
+        self.rest = rest;
+        Some(line)
     }
 }

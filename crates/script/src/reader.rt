@@ -5,5 +5,7 @@ use tokens::Tokens;
 #[derive(Drop)]
 pub(crate) struct Reader<'a> {
     pub(crate) tokens: Tokens<'a>,
+    // No ghost field bounds it: each number that is read raises it by one, and `invariant_of-self` stays open there.
+    // What the few fields of a command need stands in the `requires` of the methods.
     pub(crate) field: u8,
 }

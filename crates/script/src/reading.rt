@@ -15,13 +15,10 @@ impl Reader<'_> {
         ensures { outcome result self.new ≡ number_read (cursor self.old) }
     {
         let field = self.field;
-        match self.tokens.next_value() {
-            Some(value) => {
-                self.field = field + 1;
-                Ok(value)
-            }
-            None => Err(LineRefusal::BadField { field }),
-        }
+        let refusal = LineRefusal::BadField { field };
+        let value = self.tokens.next_value().ok_or(refusal)?;
+        self.field = field + 1;
+        Ok(value)
     }
 
     // The byte that the next field writes.
@@ -30,11 +27,7 @@ impl Reader<'_> {
         ensures { outcome result self.new ≡ byte_read (cursor self.old) }
     {
         let field = self.field;
-        let value = self.number()?;
-        match u8::try_from(value) {
-            Ok(byte) => Ok(byte),
-            Err(_) => Err(LineRefusal::BadField { field }),
-        }
+        u8::try_from(self.number()?).map_err(|_| LineRefusal::BadField { field })
     }
 
     fn file_page(&mut self) -> Result<FilePage, LineRefusal>
@@ -126,11 +119,6 @@ pub fn read_line(line: &[u8]) -> Result<Command, LineRefusal>
     ensures exact { ExactReading line.now result }
 {
     let mut tokens = Tokens::new(line, 0);
-    match tokens.next_letter() {
-        Some(letter) => {
-            let mut reader = Reader { tokens, field: 1 };
-            reader.whole_command(letter)
-        }
-        None => Err(LineRefusal::UnknownLetter),
-    }
+    let letter = tokens.next_letter().ok_or(LineRefusal::UnknownLetter)?;
+    Reader { tokens, field: 1 }.whole_command(letter)
 }

@@ -1,12 +1,12 @@
 //! A script and its lines.
 ghost use Rattle.std.specs.Prelude.{◌+◌, ◌<◌, ◌≤◌, length};
 
-use crate::levels::{Level, ScriptRefusal};
+use crate::levels::Level;
 
-/// A script that has been opened: its level, and the lines after its first; a refused script has none.
+/// A script that has been opened: its level, and the lines after its first, one after another.
 #[derive(Drop)]
 pub struct Script<'a> {
-    pub(crate) level: Result<Level, ScriptRefusal>,
+    pub(crate) level: Level,
     // What follows the lines that were handed out, and where it begins.
     pub(crate) rest: &'a [u8],
     pub(crate) place: usize,

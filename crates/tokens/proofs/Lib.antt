@@ -1,4 +1,3 @@
-pub mod Lexing
 pub mod Numerals
 pub mod Pieces
 pub mod Scans

@@ -25,8 +25,8 @@ digit_more : (d t : Bool) (m : ℕ) (cs : List ℕ) (v : ℕ)
     → elim (cond (d && t) (Some m) None) [ None ↦ None | Some k ↦ scanned k cs ] ≡ Some v
     → (d ≡ true) × (t ≡ true) × (scanned m cs ≡ Some v)
 digit_more true true m cs v e = (refl, refl, e)
-digit_more true false m cs v e = let z : ◌≡◌ {A = ℕ} 0 1 = cc in absurd (omega arith)
-digit_more false t m cs v e = let z : ◌≡◌ {A = ℕ} 0 1 = cc in absurd (omega arith)
+digit_more true false m cs v e = cc
+digit_more false t m cs v e = cc
 
 digit_taken : (d t : Bool) (m : ℕ) (cs : List ℕ) → d ≡ true → t ≡ true
     → elim (cond (d && t) (Some m) None) [ None ↦ None | Some k ↦ scanned k cs ] ≡ scanned m cs
@@ -78,12 +78,12 @@ lone_zero (c ∷ []) some z e = refl
 lone_zero (c ∷ d ∷ s) some z e = absurd (eqb-false c 48 z e)
 
 not_zero_first : (z : Bool) (o : Option ℕ) (v : ℕ) → cond z None o ≡ Some v → (z ≡ false) × (o ≡ Some v)
-not_zero_first true o v e = let z : ◌≡◌ {A = ℕ} 0 1 = cc in absurd (omega arith)
+not_zero_first true o v e = cc
 not_zero_first false o v e = (refl, e)
 
 -- and only decimal digits write a number
 pub number_only : (f : List ℕ) (v : ℕ) → number_of f ≡ Some v → (f ≡ decimal v) × (v < 2 ^ 16)
-number_only [] v e = let z : ◌≡◌ {A = ℕ} 0 1 = cc in absurd (omega arith)
+number_only [] v e = cc
 number_only (c ∷ s) v e =
     let f = c ∷ s in
     let p = not_zero_first (zero_first f) (scanned 0 f) v e in

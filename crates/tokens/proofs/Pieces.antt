@@ -1,14 +1,15 @@
 -- Pieces between marks, and the fields of a line.
 use Rattle.std.proofs.Common.{◌≡◌, ℕ, suc, ◌+◌, Bool, true, false, cond, not, eqb, ltb, List, [], ◌∷◌, length, take, drop, sym, refl, ap, ◌∙◌, add-one, one-add, arith, lt-ltb}
 use Prim.Native.Nat.compare
-use Rattle.tokens.specs.Cuts.{before, pieces, onto}
+use Rattle.std.specs.List.{onto_first}
+use Rattle.tokens.specs.Cuts.{before, pieces}
 use Rattle.tokens.specs.Spans.{fields, nothing}
 use Rattle.tokens.specs.Tokens.{after_token, fields_in, some}
 
 -- the first piece, and the pieces behind its mark
 one_more : (mark c : ℕ) (s : List ℕ) (b : Bool)
     → pieces mark s ≡ take (before mark s) s ∷ cond (ltb (before mark s) (length s)) (pieces mark (drop (before mark s + 1) s)) []
-    → cond b ([] ∷ pieces mark s) (onto c (pieces mark s))
+    → cond b ([] ∷ pieces mark s) (onto_first c (pieces mark s))
     ≡ take (cond (not b) (1 + before mark s) 0) (c ∷ s)
     ∷ cond (ltb (cond (not b) (1 + before mark s) 0) (suc (length s))) (pieces mark (drop (cond (not b) (1 + before mark s) 0 + 1) (c ∷ s))) []
 one_more mark c s true ih = rw (lt-ltb 0 (suc (length s)) (omega arith))

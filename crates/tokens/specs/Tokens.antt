@@ -1,9 +1,11 @@
 -- The tokens of a line.
-use Rattle.std.specs.Prelude.{ℕ, ◌+◌, Bool, true, false, cond, List, [], ◌∷◌, length, take, drop, Some, None, Option, ◌==◌, nat_lt}
+use Rattle.std.specs.Prelude.{◌≡◌, ℕ, ◌+◌, Bool, true, false, cond, List, [], ◌∷◌, length, take, drop, Some, None, Option, ◌==◌, nat_lt}
+use Rattle.std.specs.Option.{option_map}
 use Rattle.tokens.specs.Cuts.{before, pieces}
 use Rattle.tokens.specs.Numbers.{number_of}
-use Rattle.tokens.specs.Spans.{Left, line, fields, nothing}
+use Rattle.tokens.specs.Spans.{Left, line, fields, nothing, left, span}
 use Rattle.tokens.specs.declared.parts.Token.{Token}
+use Rattle.tokens.specs.declared.parts.Tokens.{Tokens}
 use Rattle.tokens.specs.declared.parts.Token.TheVariants.{Letter, Number, IllFormed}
 
 -- a token's bytes, its place and what it stands for
@@ -50,6 +52,18 @@ after_token (line (c ∷ [])) = nothing
 after_token (line (c ∷ d ∷ s)) = cond (d == 32) (fields s) nothing
 after_token (fields s) = cond (nat_lt (before 32 s) (length s)) (fields (drop (before 32 s + 1) s)) nothing
 after_token nothing = nothing
+
+-- no more tokens than this are left
+abbrev pub most_tokens : Left → ℕ
+most_tokens (line s) = length s
+most_tokens (fields s) = length s + 1
+most_tokens nothing = 0
+
+-- What a call for the next token does: it gives the first token of what is left and leaves the others, and the line ends where it did.
+pub record TakesToken (was : Tokens) (token : Option Token) (is : Tokens) : Type 0 where
+  pub value : option_map lexeme token ≡ first_token (left was.rest) was.place
+  pub after : left is.rest ≡ after_token (left was.rest)
+  pub end : is.place + span (left is.rest) ≡ was.place + span (left was.rest)
 
 -- the letter that a token is
 abbrev pub token_letter : Lexeme → Option ℕ

@@ -7,10 +7,8 @@ pub fn find(bytes: &[u8], mark: u8) -> usize
     ensures value { result ≡ before mark bytes.now }
     ensures within { result ≤ length bytes.now }
 {
-    for (i, byte) in bytes.iter().enumerate() {
-        if *byte == mark {
-            return i;
-        }
-    }
-    bytes.len()
+    bytes
+        .iter()
+        .position(|byte| *byte == mark)
+        .unwrap_or(bytes.len())
 }

@@ -1,8 +1,9 @@
 //! Tokens, read off a line one after another.
 ghost use Rattle.std.specs.Prelude.{◌≡◌, ◌+◌, ◌^◌, ◌≤◌, length, if◌then◌else◌, nat_lt};
+ghost use Rattle.std.specs.Iterator.{at_most};
 ghost use Rattle.std.specs.Option.{option_map};
 ghost use Rattle.tokens.specs.Spans.{line as whole_line, fields as some_fields, left, span};
-ghost use Rattle.tokens.specs.Tokens.{lexeme, field_lexeme, first_token, after_token, token_value, token_letter, value_of, letter_in, fields_in, some};
+ghost use Rattle.tokens.specs.Tokens.{lexeme, field_lexeme, first_token, after_token, token_value, token_letter, value_of, letter_in, fields_in, some, most_tokens, TakesToken};
 
 use crate::cuts::find;
 use crate::numbers::number;
@@ -15,10 +16,7 @@ impl<'a> Tokens<'a> {
         ensures rest { left result.rest ≡ whole_line line.now }
         ensures place { result.place ≡ (if nat_lt (place + length line.now) (2 ^ 64) then place else 0) }
     {
-        let place = match place.checked_add(line.len()) {
-            Some(_) => place,
-            None => 0,
-        };
+        let place = place.checked_add(line.len()).map_or(0, |_| place);
         Tokens {
             rest: Rest::Line(line),
             place,
@@ -40,13 +38,17 @@ impl<'a> Tokens<'a> {
     {
         self.next()?.letter()
     }
+}
+
+impl<'a> Iterator for Tokens<'a> {
+    type Item = Token<'a>;
+
+    ghost next_gives = { TakesToken };
+
+    ghost remaining = { λ tokens. at_most (most_tokens (left tokens.rest)) };
 
     /// The next token, or none where the line has no more.
-    pub fn next(&mut self) -> Option<Token<'a>>
-        ensures value { option_map lexeme result ≡ first_token (left self.old.rest) self.old.place }
-        ensures after { left self.new.rest ≡ after_token (left self.old.rest) }
-        ensures end { self.new.place + span (left self.new.rest) ≡ self.old.place + span (left self.old.rest) }
-    {
+    fn next(&mut self) -> Option<Token<'a>> {
         let (token, rest) = match self.rest {
             Rest::Line(line) => letter(line, self.place),
             Rest::Fields(fields) => field(fields, self.place),
@@ -60,14 +62,11 @@ impl<'a> Tokens<'a> {
 
 impl Tokens<'_> {
     /// Whether a field is left; a line's letter comes before its fields.
+    #[tactic(auto, using(crate::proofs::Pieces::some_field))]
     pub fn has_fields(&self) -> bool
         ensures { result ≡ some (fields_in (left self.now.rest)) }
     {
-        match self.rest {
-            Rest::Fields(_) => true,
-            Rest::Line(_) => false,
-            Rest::Nothing => false,
-        }
+        matches!(self.rest, Rest::Fields(_))
     }
 }
 
@@ -99,8 +98,7 @@ impl Rest<'_> {
         ensures { result ≡ span (left self.entry) }
     {
         match self {
-            Rest::Line(line) => line.len(),
-            Rest::Fields(fields) => fields.len(),
+            Rest::Line(bytes) | Rest::Fields(bytes) => bytes.len(),
             Rest::Nothing => 0,
         }
     }
@@ -112,31 +110,17 @@ fn letter(line: &[u8], place: usize) -> (Option<Token<'_>>, Rest<'_>)
     ensures after { left result.1 ≡ after_token (whole_line line.now) }
     ensures less { span (left result.1) ≤ length line.now }
 {
-    match line {
-        [letter, b' ', fields @ ..] => {
-            let letter = char::from(*letter);
-            (
-                Some(Token::Letter {
-                    text: &line[0..1],
-                    place,
-                    letter,
-                }),
-                Rest::Fields(fields),
-            )
-        }
-        [letter] => {
-            let letter = char::from(*letter);
-            (
-                Some(Token::Letter {
-                    text: line,
-                    place,
-                    letter,
-                }),
-                Rest::Nothing,
-            )
-        }
-        _ => (None, Rest::Nothing),
-    }
+    let (letter, rest) = match line {
+        [letter, b' ', fields @ ..] => (*letter, Rest::Fields(fields)),
+        [letter] => (*letter, Rest::Nothing),
+        _ => return (None, Rest::Nothing),
+    };
+    let token = Token::Letter {
+        text: &line[..1],
+        place,
+        letter: char::from(letter),
+    };
+    (Some(token), rest)
 }
 
 // The first of the fields, and what is left.
@@ -146,7 +130,7 @@ fn field(fields: &[u8], place: usize) -> (Option<Token<'_>>, Rest<'_>)
     ensures less { span (left result.1) ≤ length fields.now }
 {
     let end = find(fields, b' ');
-    let token = Some(field_token(&fields[0..end], place));
+    let token = Some(field_token(&fields[..end], place));
     if end < fields.len() {
         (token, Rest::Fields(&fields[end + 1..]))
     } else {

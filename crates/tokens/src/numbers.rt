@@ -17,11 +17,9 @@ pub fn number(field: &[u8]) -> Option<u16>
 fn scan(digits: &[u8]) -> Option<u16>
     ensures { result ≡ scanned 0 digits.now }
 {
-    let mut value = 0;
-    for digit in digits {
-        value = append(value, *digit)?;
-    }
-    Some(value)
+    digits
+        .iter()
+        .try_fold(0, |value, digit| append(value, *digit))
 }
 
 // The number with one digit more.

@@ -3,6 +3,7 @@ ghost use Rattle.std.specs.Prelude.{◌+◌, ◌^◌, ◌<◌};
 ghost use Rattle.tokens.specs.Spans.{span, left};
 
 /// A part of the script with its place, which is the index of its first byte.
+// Text and place stand in each case: a struct of the two would put a level more into every pattern, and say no more.
 #[derive(Clone, Copy)]
 pub enum Token<'a> {
     /// The first byte of a line, where a space or the line's end follows.
