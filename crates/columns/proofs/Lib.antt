@@ -1,4 +1,3 @@
 pub mod Apart
 pub mod Appends
-pub mod Fields
 pub mod Lines

@@ -31,22 +31,24 @@ pub struct OutputLine {
     pub values: Values,
 }
 
-// Writes the number over the whole field, from its last digit to its first, with spaces in front.
-// The digit is written before the test, since 0 has one digit too.
-// The digits are put in place by hand: the contract of `write!` says what was written where it succeeds, and not that it does.
+// Writes the text at the end of the field, with spaces in front.
+fn put_right(field: &mut [u8], text: &[u8])
+    requires { length text.now ≤ length field.old }
+    ensures { field.new ≡ right (length field.old) text.now }
+{
+    field.fill(b' ');
+    let start = field.len() - text.len();
+    field[start..].copy_from_slice(text);
+}
+
+// Writes the number over the whole field, with spaces in front.
+// Not by `write!`: its contract says what was written where it succeeds, and not that it does.
 fn put_number(field: &mut [u8], number: u32)
     requires { length (decimal number) ≤ length field.old }
     ensures { field.new ≡ right (length field.old) (decimal number) }
 {
-    field.fill(b' ');
-    let mut rest = number;
-    for place in (0..field.len()).rev() {
-        field[place] = b'0' + (rest % 10) as u8;
-        rest /= 10;
-        if rest == 0 {
-            return;
-        }
-    }
+    let mut digits = itoa::Buffer::new();
+    put_right(field, digits.format(number).as_bytes());
 }
 
 // Writes the count over the whole field, with spaces in front.
@@ -57,11 +59,7 @@ fn put_count(field: &mut [u8], count: Count)
 {
     match count {
         Count::Exact(number) => put_number(field, number),
-        Count::Over => {
-            field.fill(b' ');
-            let start = field.len() - 4;
-            field[start..].copy_from_slice(b"over");
-        }
+        Count::Over => put_right(field, b"over"),
     }
 }
 
