@@ -1,3 +1,4 @@
+pub mod Accounts
 pub mod Finding
 pub mod ListLaw
 pub mod Listing

@@ -7,7 +7,7 @@ use Rattle.backend.specs.declared.nothing.Nothing.{Nothing}
 use Rattle.backend.specs.declared.refusals.Cause.TheVariants.{NoPlace}
 
 abbrev pub nothing_state : Nothing → List ℕ
-nothing_state b = encode (record { label = b.label; offers = b.offers; first = []; second = [] })
+nothing_state b = encode (record { label = b.account.label; offers = b.account.offers; first = []; second = [] })
 
 abbrev pub nothing_rules : Rules
 nothing_rules = record {

@@ -5,15 +5,15 @@ ghost use Rattle.backend.specs.Nothing.{nothing_state, nothing_rules};
 ghost use Rattle.std.proofs.Common.{rules};
 ghost use Rattle.backend.specs.Codec.{decode_encode};
 
+use crate::account::Account;
 use crate::interface::Backend;
 use crate::refusals::{Cause, Refusal};
-use page::{Count, Key, PAGE_BYTES};
+use page::{Count, Key};
 
 /// Holds no page and refuses every put.
 #[derive(Drop)]
 pub struct Nothing {
-    label: u32,
-    offers: Count,
+    account: Account,
 }
 
 impl Nothing {
@@ -23,8 +23,7 @@ impl Nothing {
         ensures label { nothing_rules.label (nothing_state result) ≡ label }
     {
         Nothing {
-            label,
-            offers: Count::zero(),
+            account: Account::new(label),
         }
     }
 }
@@ -39,30 +38,12 @@ impl Backend for Nothing {
     ghost valid = { Prim.search rules };
 
     fn put(&mut self, key: Key, page: &[u8]) -> Result<(), Refusal> {
-        let label = self.label;
-        if page.len() != PAGE_BYTES {
-            return Err(Refusal {
-                cause: Cause::NotAPage,
-                key,
-                label,
-            });
-        }
-        self.offers = self.offers.one_more();
-        Err(Refusal {
-            cause: Cause::NoPlace,
-            key,
-            label,
-        })
+        self.account.offer(key, page)?;
+        Err(self.account.refusal(Cause::NoPlace, key))
     }
 
     fn get(&mut self, key: Key, out: &mut [u8]) -> Result<bool, Refusal> {
-        if out.len() != PAGE_BYTES {
-            return Err(Refusal {
-                cause: Cause::NotAPage,
-                key,
-                label: self.label,
-            });
-        }
+        self.account.check(key, out)?;
         Ok(false)
     }
 
@@ -81,6 +62,6 @@ impl Backend for Nothing {
     }
 
     fn offers(&self) -> Count {
-        self.offers
+        self.account.offers()
     }
 }

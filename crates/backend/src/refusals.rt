@@ -3,17 +3,18 @@ ghost use Rattle.std.specs.Prelude.{◌≡◌, Some};
 ghost use Rattle.backend.specs.Refusals.{cause_number, refusal_text};
 
 use page::Key;
+use std::error::Error;
 use std::fmt;
 
 /// What a refusal is for.
 #[derive(Clone, Copy, PartialEq, Eq, Debug)]
 pub enum Cause {
     /// No place is free, and none can be made free.
-    NoPlace,
+    NoPlace = 21,
     /// The pool holds its limit.
-    OverLimit,
+    OverLimit = 22,
     /// The slice has not 256 bytes.
-    NotAPage,
+    NotAPage = 23,
 }
 
 impl Cause {
@@ -21,16 +22,12 @@ impl Cause {
     pub fn number(self) -> u8
         ensures { result ≡ cause_number self }
     {
-        match self {
-            Cause::NoPlace => 21,
-            Cause::OverLimit => 22,
-            Cause::NotAPage => 23,
-        }
+        self as u8
     }
 }
 
 /// A refusal: its cause, the key that was asked for, and the label of the part that refused.
-#[derive(Clone, Copy)]
+#[derive(Clone, Copy, PartialEq, Eq, Debug)]
 pub struct Refusal {
     pub cause: Cause,
     pub key: Key,
@@ -41,9 +38,14 @@ impl fmt::Display for Refusal {
     ghost output = { λ e. Some (refusal_text e) };
 
     fn fmt<W: fmt::Write>(&self, f: &mut fmt::Formatter<W>) -> fmt::Result {
-        let cause = self.cause.number();
-        let key = self.key.number();
-        let label = self.label;
-        write!(f, "{cause} key {key} label {label}")
+        write!(
+            f,
+            "{} key {} label {}",
+            self.cause.number(),
+            self.key,
+            self.label
+        )
     }
 }
+
+impl Error for Refusal {}

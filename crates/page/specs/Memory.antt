@@ -1,6 +1,6 @@
 -- Memory cut into pages of 256 bytes: where a page lies, which calls are refused, and what a write leaves.
 -- An area is the list of all the bytes, with those past the last whole page.
-use Rattle.std.specs.Prelude.{◌≡◌, ℕ, ◌+◌, ◌*◌, ◌/◌, Bool, cond, List, ◌++◌, length, take, drop, replicate, Ok, Err, vec_items, Result, ◌==◌, ◌≢◌, nat_le, nat_lt}
+use Rattle.std.specs.Prelude.{◌≡◌, ℕ, ◌+◌, ◌*◌, ◌/◌, Bool, cond, List, ◌++◌, length, take, drop, replicate, Ok, Err, Some, None, Option, vec_items, Result, ◌==◌, ◌≢◌, nat_le, nat_lt}
 use Rattle.page.specs.declared.memory.PageMemory.{PageMemory}
 use Rattle.page.specs.declared.memory.PageRefusal.{PageRefusal}
 use Rattle.page.specs.declared.memory.PageRefusal.TheVariants.{NoSuchPage, BadLength}
@@ -24,6 +24,10 @@ start_of place = place * 256
 -- the page at a place
 unfoldable pub page_at : List ℕ → ℕ → List ℕ
 page_at area place = take 256 (drop (start_of place) area)
+
+-- the page at a place, if there is one
+abbrev pub page_of : List ℕ → ℕ → Option (List ℕ)
+page_of area place = cond (nat_lt place (pages_in area)) (Some (page_at area place)) None
 
 -- whether every page but that at one place is as it was
 abbrev pub OthersKept : List ℕ → List ℕ → ℕ → Type 0

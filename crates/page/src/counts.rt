@@ -5,6 +5,7 @@ ghost use Rattle.page.specs.Counts.{count_of, one_more, count_text};
 use std::fmt;
 
 /// How many there are: an exact number, or more than 4,294,967,295.
+// No `Option`: its `None` would read as no count at all.
 #[derive(Clone, Copy, PartialEq, Eq, Debug)]
 pub enum Count {
     Exact(u32),
@@ -25,10 +26,7 @@ impl Count {
         ensures counts_on { (n : ℕ) → self ≡ count_of n → result ≡ count_of (n + 1) }
     {
         match self {
-            Count::Exact(number) => match number.checked_add(1) {
-                Some(more) => Count::Exact(more),
-                None => Count::Over,
-            },
+            Count::Exact(number) => number.checked_add(1).map_or(Count::Over, Count::Exact),
             Count::Over => Count::Over,
         }
     }

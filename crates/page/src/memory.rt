@@ -1,6 +1,7 @@
 //! An area of memory cut into pages of 256 bytes.
-ghost use Rattle.std.specs.Prelude.{◌≡◌, ◌+◌, ◌≤◌, true, [], ◌∷◌, length, is_ok, if◌then◌else◌, Ok, Err, nat_lt};
-ghost use Rattle.page.specs.Memory.{refusal_number, area_of, pages_in, start_of, page_at, OthersKept, overlaid, put_page, put_run, zero_page, outcome, whole_page, within_page};
+ghost use Rattle.std.specs.Prelude.{◌≡◌, ◌+◌, ◌≤◌, true, [], ◌∷◌, length, is_ok, if◌then◌else◌, Ok, Err, IfSome, nat_lt};
+ghost use Rattle.std.specs.Option.{option_map};
+ghost use Rattle.page.specs.Memory.{refusal_number, area_of, pages_in, start_of, page_at, page_of, OthersKept, overlaid, put_page, put_run, zero_page, outcome, whole_page, within_page};
 
 /// How many bytes a page has.
 pub const PAGE_BYTES: usize = 256;
@@ -8,8 +9,8 @@ pub const PAGE_BYTES: usize = 256;
 /// Why page memory refuses a call.
 #[derive(Clone, Copy, PartialEq, Eq, Debug)]
 pub enum PageRefusal {
-    NoSuchPage,
-    BadLength,
+    NoSuchPage = 6,
+    BadLength = 7,
 }
 
 impl PageRefusal {
@@ -17,10 +18,7 @@ impl PageRefusal {
     pub fn number(self) -> u8
         ensures { result ≡ refusal_number self }
     {
-        match self {
-            PageRefusal::NoSuchPage => 6,
-            PageRefusal::BadLength => 7,
-        }
+        self as u8
     }
 }
 
@@ -73,16 +71,25 @@ impl PageMemory {
         area[at..at + bytes.len()].copy_from_slice(bytes);
     }
 
+    /// The page at `place`, where it lies.
+    pub fn page(&self, place: usize) -> Option<&[u8]>
+        ensures value { option_map (λ p. p.now) result ≡ page_of (area_of self.now) place }
+        ensures whole { IfSome result (λ p. length p.now ≡ 256) }
+    {
+        let start = self.start_of(place).ok()?;
+        Some(&self.bytes.as_slice()[start..start + PAGE_BYTES])
+    }
+
     /// Copies the page at `place` out.
     pub fn read(&self, place: usize, out: &mut [u8]) -> Result<(), PageRefusal>
         ensures answer { result ≡ outcome (area_of self.now) place (whole_page (length out.old)) }
         ensures out { out.new ≡ (if is_ok result then page_at (area_of self.now) place else out.old) }
     {
-        let start = self.start_of(place)?;
-        if out.len() != PAGE_BYTES {
+        let page = self.page(place).ok_or(PageRefusal::NoSuchPage)?;
+        if out.len() != page.len() {
             return Err(PageRefusal::BadLength);
         }
-        out.copy_from_slice(&self.bytes.as_slice()[start..start + PAGE_BYTES]);
+        out.copy_from_slice(page);
         Ok(())
     }
 
