@@ -28,10 +28,6 @@ count_of fs = length-take-le fs.count fs.table (omega (arith, fs.full, fs.few))
 pub from_start : {X : Type 0} (xs : List X) (n : ℕ) → take (n - 0) (drop 0 xs) ≡ take n xs
 from_start xs n = search rules
 
--- a table whose first frames have been written
-pub part_length : (fs : Frames) (ys : List Frame) → length ys ≡ fs.count → length (ys ++ drop (fs.count - 0) (drop 0 fs.table)) ≡ 16
-part_length fs ys e = let a = fs.full in let b = fs.few in simp (length-append, length-drop) (omega arith)
-
 -- the frames as the code lends them
 abbrev pub lent : Frames → List Frame
 lent fs = take (fs.count - 0) (drop 0 fs.table)

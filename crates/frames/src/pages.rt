@@ -1,5 +1,5 @@
 //! A guest's pages, sets of them, and the keys that stand for them.
-ghost use Rattle.std.specs.Prelude.{◌≡◌, ℕ, IfSome};
+ghost use Rattle.std.specs.Prelude.{◌≡◌, IfSome};
 ghost use Rattle.frames.specs.Pages.{NamesOnly, file_from, in_set, page_key};
 
 use page::Key;
