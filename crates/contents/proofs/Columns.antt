@@ -1,7 +1,7 @@
 -- The laws of the columns of a list of records.
-use Rattle.std.proofs.Common.{◌≡◌, ℕ, ◌+◌, ◌<◌, List, length, get_or, set, replicate, sym, ap, ◌∙◌, inl, inr, arith}
-use Rattle.std.proofs.lemmas.List.{length-map, get_or-map, map-set, set-get_or, get_or-set_same, get_or-set_other, ext_get_or, length-replicate, get_or-replicate}
-use Rattle.std.proofs.lemmas.Bool.{cases_eq}
+use Rattle.std.proofs.Common.{◌≡◌, ℕ, zero, suc, ◌<◌, List, ◌∷◌, length, get_or, set, replicate, sym, refl, ap, ◌∙◌}
+use Rattle.std.proofs.lemmas.List.{length-map, get_or-map, map-set, set-get_or}
+use Rattle.std.proofs.Math.ListN.{get_or-map as column_at}
 use Rattle.contents.specs.declared.records.ContentRecord.{ContentRecord}
 use Rattle.contents.specs.Records.{users_in, fingerprints_in}
 
@@ -21,6 +21,14 @@ pub fingerprints_read : (rs : List ContentRecord) (i : ℕ) (d : ContentRecord) 
 unfolding fingerprints_in
 fingerprints_read rs i d h = get_or-map (λ r. r.fingerprint) rs i d 0 h
 
+-- what a read past the end of the records would give
+abbrev pub blank : ContentRecord
+blank = record { users = 0; fingerprint = 0 }
+
+pub users_at : (rs : List ContentRecord) (i : ℕ) → get_or (users_in rs) i 0 ≡ (get_or rs i blank).users
+unfolding users_in
+users_at rs i = column_at (λ r. r.users) rs i blank
+
 pub users_set : (rs : List ContentRecord) (i : ℕ) (r : ContentRecord) → users_in (set rs i r) ≡ set (users_in rs) i r.users
 unfolding users_in
 users_set rs i r = map-set (λ r. r.users) rs i r
@@ -30,16 +38,17 @@ unfolding fingerprints_in
 fingerprints_set rs i r = map-set (λ r. r.fingerprint) rs i r
 
 -- a record whose users alone are new
-pub fingerprints_kept : (rs : List ContentRecord) (i : ℕ) (old new : ContentRecord) → i < length rs → old ≡ get_or rs i old
-    → new.fingerprint ≡ old.fingerprint → fingerprints_in (set rs i new) ≡ fingerprints_in rs
-fingerprints_kept rs i old new h e same =
-    let read : new.fingerprint ≡ get_or (fingerprints_in rs) i 0 = same ∙ ap (λ r. r.fingerprint) e ∙ sym (fingerprints_read rs i old h) in
-    fingerprints_set rs i new ∙ ap (λ v. set (fingerprints_in rs) i v) read ∙ set-get_or (fingerprints_in rs) i 0
+pub fingerprints_kept : (rs : List ContentRecord) (i : ℕ) (old : ContentRecord) (users : ℕ) → i < length rs → old ≡ get_or rs i old
+    → fingerprints_in (set rs i (record { users = users; fingerprint = old.fingerprint })) ≡ fingerprints_in rs
+fingerprints_kept rs i old users h e =
+    let read : old.fingerprint ≡ get_or (fingerprints_in rs) i 0 = ap (λ r. r.fingerprint) e ∙ sym (fingerprints_read rs i old h) in
+    fingerprints_set rs i _ ∙ ap (λ v. set (fingerprints_in rs) i v) read ∙ set-get_or (fingerprints_in rs) i 0
 
--- one count more is 0
-pub cleared_more : (us : List ℕ) (i : ℕ) → i < length us → ((k : ℕ) → k < i → get_or us k 0 ≡ 0) → (k : ℕ) → k < i + 1 → get_or (set us i 0) k 0 ≡ 0
-cleared_more us i h below k l = elim (cases_eq k i) [ inl e ↦ grind (arith, get_or-set_same us i 0 0 h) | inr ne ↦ get_or-set_other us i k 0 0 ne ∙ below k (omega arith) ]
+users_alike : (n : ℕ) (r : ContentRecord) → users_in (replicate n r) ≡ replicate n r.users
+unfolding users_in
+users_alike zero r = refl
+users_alike (suc n) r = ap (λ us. r.users ∷ us) (users_alike n r)
 
--- all of them are
-pub cleared_all : (us : List ℕ) (n : ℕ) → length us ≡ n → ((k : ℕ) → k < n → get_or us k 0 ≡ 0) → us ≡ replicate n 0
-cleared_all us n long zeros = ext_get_or 0 us (replicate n 0) (long ∙ sym (length-replicate n 0)) (λ i h. let l : i < n = omega arith in zeros i l ∙ sym (get_or-replicate n i 0 0 l))
+-- records that are all free
+pub users_free : (rs : List ContentRecord) (n : ℕ) (r : ContentRecord) → rs ≡ replicate n r → r.users ≡ 0 → users_in rs ≡ replicate n 0
+users_free rs n r alike free = ap users_in alike ∙ users_alike n r ∙ ap (replicate n) free

@@ -1,5 +1,5 @@
 -- How many contents are in use, after a count of users is set.
-use Rattle.std.proofs.Common.{◌≡◌, ℕ, zero, suc, ◌+◌, ◌<◌, ◌≤◌, cond, leb, List, [], ◌∷◌, length, get_or, set, replicate, count_by, refl, inl, inr, arith}
+use Rattle.std.proofs.Common.{◌≡◌, ℕ, zero, suc, ◌+◌, ◌<◌, ◌≤◌, cond, leb, List, [], ◌∷◌, length, get_or, set, replicate, refl, inl, inr, arith}
 use Rattle.std.proofs.lemmas.List.{length-set, get_or_past}
 use Rattle.std.proofs.lemmas.List.Sums.{sum_by-cons, sum_by-set, count_by-le-length}
 use Rattle.std.proofs.lemmas.Bool.{cases_lt}
@@ -16,11 +16,6 @@ in_use_one n = cond (leb 1 n) 1 0
 in_use_yes : (n : ℕ) → 1 ≤ n → in_use_one n ≡ 1
 unfolding in_use_one
 in_use_yes n h = grind (arith, nat_tests)
-
--- the count in the library's words
-pub in_use_is : (us : List ℕ) → in_use_in us ≡ count_by (λ n. leb 1 n) us
-unfolding in_use_in
-in_use_is us = refl
 
 pub in_use_le : (us : List ℕ) → in_use_in us ≤ length us
 unfolding in_use_in

@@ -1,9 +1,11 @@
 -- What keeps contents whole.
-use Rattle.std.proofs.Common.{◌≡◌, ℕ, ◌+◌, ◌-◌, ◌<◌, ◌≤◌, ◌⊎◌, List, length, get_or, set, replicate, sym, ap, ◌∙◌, inl, inr, arith}
-use Rattle.std.proofs.lemmas.List.{length-set, length-replicate, get_or-set_same, get_or-set_other, get_or-replicate, set-get_or}
+use Rattle.std.proofs.Common.{◌≡◌, ℕ, ◌+◌, ◌-◌, ◌<◌, ◌≤◌, ◌⊎◌, List, length, get_or, set, replicate, cond, is_ok, Ok, Result, sym, ap, ◌∙◌, inl, inr, arith}
+use Rattle.std.proofs.lemmas.List.{length-set, length-replicate, get_or-set_same, get_or-set_other, get_or-replicate}
 use Rattle.std.proofs.lemmas.Bool.{cases_eq}
-use Rattle.page.specs.Memory.{pages_in, page_at, put_page}
+use Rattle.std.proofs.lemmas.Bool.Decides.{nat_tests}
+use Rattle.page.specs.Memory.{outcome, pages_in, page_at, put_page, whole_page}
 use Rattle.page.proofs.Areas.{length_put_page, same_place, other_places}
+use Rattle.page.specs.declared.memory.PageRefusal.{PageRefusal}
 use Rattle.contents.specs.Calls.{Absent}
 use Rattle.contents.specs.Fingerprint.{fingerprint_of}
 use Rattle.contents.specs.Records.{in_use_in}
@@ -48,6 +50,18 @@ whole_none n fs area few paged level =
       printed = λ i used. absurd (free i used);
       apart = λ i j ui uj same. absurd (free i ui);
     }
+
+-- page memory takes a whole page at a place that it has
+module _ (area : List ℕ) (place : ℕ) (page : List ℕ) (exists : place < pages_in area) (whole : length page ≡ 256) (answer : Result Unit PageRefusal)
+    (is : answer ≡ outcome area place (whole_page (length page))) where
+  pub taken_in : answer ≡ Ok tt
+  taken_in = is ∙ fits
+    where
+      fits : outcome area place (whole_page (length page)) ≡ Ok tt
+      fits = grind (arith, nat_tests)
+
+  pub laid_in : (after : List ℕ) → after ≡ cond (is_ok answer) (put_page area place page) area → after ≡ put_page area place page
+  laid_in after e = rw taken_in at e
 
 module _ {us fs area : List ℕ} {count : ℕ} (w : Whole us fs area count) (page : List ℕ) (i : ℕ) (l : i < length us) (free : get_or us i 0 ≡ 0)
     (absent : Absent us area page) (whole : length page ≡ 256) where
@@ -96,7 +110,3 @@ module _ {us fs area : List ℕ} {count : ℕ} (w : Whole us fs area count) (pag
         printed = printed_after;
         apart = apart_after;
       }
-
--- a content that is free stays so
-pub released_none : (us : List ℕ) (i : ℕ) → get_or us i 0 ≡ 0 → us ≡ set us i (get_or us i 0 - 1)
-released_none us i free = let e : get_or us i 0 - 1 ≡ get_or us i 0 = omega arith in rw e (sym (set-get_or us i 0))

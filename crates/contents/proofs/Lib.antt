@@ -4,4 +4,5 @@ pub mod InUse
 mod Keeping
 mod Outcomes
 mod Prints
+mod Searches
 mod Unique

@@ -1,9 +1,9 @@
 -- What the answers of a page that is taken up say of the area.
-use Rattle.std.proofs.Common.{◌≡◌, ℕ, ◌+◌, ◌<◌, ◌≤◌, List, length, get_or, Some, None, Option, sym, ap, ◌∙◌, inl, inr, arith}
+use Rattle.std.proofs.Common.{◌≡◌, ℕ, ◌<◌, ◌≤◌, List, length, get_or, Some, None, Option, sym, ap, ◌∙◌, inr, arith}
 use Rattle.std.proofs.lemmas.List.{length-set}
 use Rattle.page.specs.Memory.{pages_in, page_at}
 use Rattle.page.proofs.Areas.{length_put_page, same_place, other_places}
-use Rattle.contents.specs.Calls.{Holds, Absent, Shared, Stored, Refused, Acquired, CountedUp, LaidDown}
+use Rattle.contents.specs.Calls.{Absent, Stored, Refused, Acquired, LaidDown}
 
 -- what a caller of `acquire` learns beside which case it is
 pub record Told (users area page : List ℕ) (r : Option ℕ) (users_after area_after : List ℕ) : Type 0 where
@@ -23,15 +23,6 @@ module _ (users area page : List ℕ) (paged : length users ≤ pages_in area) w
     others = λ j _. ap (λ x. page_at x j) a;
   }
 
-  told_shared : (i : ℕ) (users_after area_after : List ℕ) → length page ≡ 256 → Shared users area page i users_after area_after → Told users area page (Some i) users_after area_after
-  told_shared i users_after area_after whole s = record {
-    outcome = (whole, inl s);
-    same_size = ap length s.users_now ∙ length-set users i (get_or users i 0 + 1);
-    same_length = ap length s.area_now;
-    holds = λ k e. (let same : i ≡ k = cc in ap (page_at area_after) (sym same) ∙ ap (λ x. page_at x i) s.area_now ∙ s.holds.same);
-    others = λ j _. ap (λ x. page_at x j) s.area_now;
-  }
-
   told_stored : (i : ℕ) (users_after area_after : List ℕ) → length page ≡ 256 → Stored users area page i users_after area_after → Told users area page (Some i) users_after area_after
   told_stored i users_after area_after whole s =
       let exists : i < pages_in area = let l = s.within in omega arith in
@@ -42,13 +33,6 @@ module _ (users area page : List ℕ) (paged : length users ≤ pages_in area) w
         holds = λ k e. (let same : i ≡ k = cc in ap (page_at area_after) (sym same) ∙ ap (λ x. page_at x i) s.area_now ∙ same_place area i page exists whole);
         others = λ j used. ap (λ x. page_at x j) s.area_now ∙ other_places area i page exists whole j (λ e. let z : get_or users j 0 ≡ 0 = rw e s.free in omega arith);
       }
-
-  -- a page that is there
-  pub told_found : (content : ℕ) → Holds users area page content → length page ≡ 256 → (r : Option ℕ) (users_after area_after : List ℕ)
-      → CountedUp users area content r users_after area_after → Told users area page r users_after area_after
-  told_found content holds whole (Some i) users_after area_after up =
-      told_shared i users_after area_after whole (rw up.0 (record { holds = holds; room = up.1; users_now = up.2; area_now = up.3 }))
-  told_found content holds whole None users_after area_after up = told_none users_after area_after up.1 up.2 (inr (inl (content, (holds, up.0))))
 
   -- a page that is not there
   pub told_absent : Absent users area page → length page ≡ 256 → (r : Option ℕ) (users_after area_after : List ℕ)

@@ -5,43 +5,41 @@ ghost use Rattle.contents.specs.Calls.{Found};
 ghost use Rattle.contents.specs.Records.{in_use_in};
 ghost use Rattle.contents.specs.View.{users_of, contents_area};
 
-use super::pages::{fingerprint_of, read_page};
-use super::records::{ContentRecord, clear_users, users_of};
-use super::search::find_page;
+use super::pages::FingerprintedPage;
+use super::records::ContentRecord;
 use super::store::Contents;
-use page::PAGE_BYTES;
+use page::PageMemory;
 
 /// The most contents that there can be.
 pub const LIMIT: usize = 4096;
 
 impl Contents {
     /// Contents that are all free, over the memory given, whatever it holds. Records past the last content are let go.
-    pub fn new(bytes: Vec<u8>, records: Vec<ContentRecord>) -> Contents
+    pub fn new(bytes: Vec<u8>, mut records: Vec<ContentRecord>) -> Contents
         ensures users { users_of result ≡ replicate (min 4096 (min (pages_in bytes.items) (length records.items))) 0 }
         ensures area { contents_area result ≡ bytes.items }
     {
-        let mut kept = records;
-        let pages = bytes.len() / PAGE_BYTES;
-        kept.truncate(pages.min(LIMIT));
-        clear_users(&mut kept);
+        let memory = PageMemory::new(bytes);
+        records.truncate(memory.pages().min(LIMIT));
+        records.fill(ContentRecord::blank());
         Contents {
-            records: kept,
-            bytes,
+            records,
+            memory,
             in_use: 0,
         }
     }
 
     /// Gives the memory back.
     pub fn into_parts(self) -> (Vec<u8>, Vec<ContentRecord>)
-        ensures bytes { result.0 ≡ self.bytes }
+        ensures bytes { result.0 ≡ self.memory.bytes }
         ensures records { result.1 ≡ self.records }
     {
         let Contents {
             records,
-            bytes,
+            memory,
             in_use: _,
         } = self;
-        (bytes, records)
+        (memory.into_bytes(), records)
     }
 
     /// How many contents there can be.
@@ -62,21 +60,16 @@ impl Contents {
     pub fn users(&self, content: u16) -> u16
         ensures { result ≡ slice_index (users_of self.now) content }
     {
-        if (content as usize) < self.size() {
-            users_of(&self.records, content as usize)
-        } else {
-            0
-        }
+        self.records
+            .get(usize::from(content))
+            .map_or(0, |record| record.users)
     }
 
     /// The content in use that is this page.
     pub fn find(&self, page: &[u8]) -> Option<u16>
         ensures { Found (users_of self.now) (contents_area self.now) page.now result }
     {
-        if page.len() != PAGE_BYTES {
-            return None;
-        }
-        find_page(&self.records, &self.bytes, fingerprint_of(page), page)
+        self.find_page(&FingerprintedPage::new(page)?)
     }
 
     /// Copies the page of a content out, and answers whether there is such a content and `out` has the length of a page.
@@ -84,11 +77,6 @@ impl Contents {
         ensures answer { result ≡ (nat_lt content (length (users_of self.now)) && length out.old == 256) }
         ensures out { out.new ≡ (if result then page_at (contents_area self.now) content else out.old) }
     {
-        if (content as usize) < self.size() && out.len() == PAGE_BYTES {
-            read_page(&self.bytes, content as usize, out);
-            true
-        } else {
-            false
-        }
+        usize::from(content) < self.size() && self.memory.read(usize::from(content), out).is_ok()
     }
 }

@@ -1,44 +1,38 @@
 //! The search for a page among the contents in use, and for a free content.
-ghost use Rattle.std.specs.Prelude.{◌≡◌, ℕ, ◌<◌, ◌≤◌, length, MatchOption, slice_index};
-ghost use Rattle.page.specs.Memory.{pages_in};
-ghost use Rattle.contents.specs.Calls.{Found};
-ghost use Rattle.contents.specs.Fingerprint.{fingerprint_of};
-ghost use Rattle.contents.specs.Records.{users_in, fingerprints_in};
-ghost use Rattle.contents.specs.Whole.{Printed};
+ghost use Rattle.std.specs.Prelude.{◌≡◌, ℕ, ◌<◌, ◌≤◌, length, MatchOption, Decides, slice_index};
+ghost use Rattle.contents.specs.Calls.{Found, Holds};
+ghost use Rattle.contents.specs.View.{users_of, contents_area};
 
-use super::pages::lies_at;
-use super::records::ContentRecord;
+use super::pages::FingerprintedPage;
+use super::store::Contents;
 
-// The content in use that is this page. Its bytes are compared only where the fingerprints are equal.
-pub(crate) fn find_page(
-    records: &[ContentRecord],
-    area: &[u8],
-    fingerprint: u32,
-    page: &[u8],
-) -> Option<u16>
-    requires few { length records.now ≤ 4096 }
-    requires paged { length records.now ≤ pages_in area.now }
-    requires printed { Printed (users_in records.now) (fingerprints_in records.now) area.now }
-    requires print { fingerprint ≡ fingerprint_of page.now }
-    ensures { Found (users_in records.now) area.now page.now result }
-{
-    for (i, record) in records.iter().enumerate() {
-        if record.users != 0 && record.fingerprint == fingerprint && lies_at(area, i, page) {
-            return Some(i as u16);
-        }
+impl Contents {
+    // Whether a content is in use and is this page. Bytes are compared, where they lie, only where the fingerprints are equal.
+    fn is_page(&self, content: usize, page: &FingerprintedPage) -> bool
+        ensures { Decides result (Holds (users_of self.now) (contents_area self.now) page.now.bytes.now content) }
+    {
+        let Some(record) = self.records.get(content) else {
+            return false;
+        };
+        record.users != 0
+            && record.fingerprint == page.fingerprint
+            && self
+                .memory
+                .page(content)
+                .is_some_and(|stored| stored == page.bytes.as_slice())
     }
-    None
-}
 
-// The first content that has no users.
-pub(crate) fn first_free(records: &[ContentRecord]) -> Option<u16>
-    requires { length records.now ≤ 4096 }
-    ensures { MatchOption result ((k : ℕ) → k < length (users_in records.now) → 1 ≤ slice_index (users_in records.now) k) (λ i. (i < length (users_in records.now)) × (slice_index (users_in records.now) i ≡ 0)) }
-{
-    for (i, record) in records.iter().enumerate() {
-        if record.users == 0 {
-            return Some(i as u16);
-        }
+    // The content in use that is this page.
+    pub(crate) fn find_page(&self, page: &FingerprintedPage) -> Option<u16>
+        ensures { Found (users_of self.now) (contents_area self.now) page.now.bytes.now result }
+    {
+        (0..self.records.len() as u16).find(|content| self.is_page(usize::from(*content), page))
     }
-    None
+
+    // The first content that has no users.
+    pub(crate) fn first_free(&self) -> Option<usize>
+        ensures { MatchOption result ((k : ℕ) → k < length (users_of self.now) → 1 ≤ slice_index (users_of self.now) k) (λ i. (i < length (users_of self.now)) × (slice_index (users_of self.now) i ≡ 0)) }
+    {
+        self.records.iter().position(|record| record.users == 0)
+    }
 }

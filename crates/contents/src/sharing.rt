@@ -2,14 +2,11 @@
 ghost use Rattle.std.specs.Prelude.{◌≡◌, ℕ, ◌-◌, ◌≤◌, length, Some, slice_index, slice_set};
 ghost use Rattle.page.specs.Memory.{page_at};
 ghost use Rattle.contents.specs.Calls.{Absent, Acquired, CountedUp, LaidDown};
-ghost use Rattle.contents.specs.Fingerprint.{fingerprint_of};
 ghost use Rattle.contents.specs.View.{users_of, contents_area};
 
-use super::pages::{fingerprint_of, write_page};
-use super::records::{set_first_user, set_users};
-use super::search::{find_page, first_free};
+use super::pages::FingerprintedPage;
+use super::records::ContentRecord;
 use super::store::Contents;
-use page::PAGE_BYTES;
 
 impl Contents {
     // One user more of a content in use, where it can be counted.
@@ -17,31 +14,28 @@ impl Contents {
         requires { 1 ≤ slice_index (users_of self.old) content }
         ensures { CountedUp (users_of self.old) (contents_area self.old) content result (users_of self.new) (contents_area self.new) }
     {
-        let users = self.users(content);
-        if users == u16::MAX {
-            return None;
-        }
-        set_users(&mut self.records, content as usize, users + 1);
+        let users = self.users(content).checked_add(1)?;
+        self.records[usize::from(content)].users = users;
         Some(content)
     }
 
     // Makes a page that is not there a content that is free, if there is one.
-    fn store(&mut self, fingerprint: u32, page: &[u8]) -> Option<u16>
-        requires absent { Absent (users_of self.old) (contents_area self.old) page.now }
-        requires whole { length page.now ≡ 256 }
-        requires print { fingerprint ≡ fingerprint_of page.now }
-        ensures { LaidDown (users_of self.old) (contents_area self.old) page.now result (users_of self.new) (contents_area self.new) }
+    fn store(&mut self, page: &FingerprintedPage) -> Option<u16>
+        requires absent { Absent (users_of self.old) (contents_area self.old) page.now.bytes.now }
+        ensures { LaidDown (users_of self.old) (contents_area self.old) page.now.bytes.now result (users_of self.new) (contents_area self.new) }
     {
         if self.in_use == self.size() {
             return None;
         }
-        let Some(content) = first_free(&self.records) else {
-            return None;
+        let content = self.first_free()?;
+        let FingerprintedPage { bytes, fingerprint } = *page;
+        self.memory.write(content, bytes).unwrap();
+        self.records[content] = ContentRecord {
+            users: 1,
+            fingerprint,
         };
-        write_page(&mut self.bytes, content as usize, page);
-        set_first_user(&mut self.records, content as usize, fingerprint);
         self.in_use += 1;
-        Some(content)
+        Some(content as u16)
     }
 
     /// Has one user more of this page, which is stored where it is not there yet, and answers its content.
@@ -52,13 +46,10 @@ impl Contents {
         ensures holds { (i : ℕ) → result ≡ Some i → page_at (contents_area self.new) i ≡ page.now }
         ensures others { (j : ℕ) → 1 ≤ slice_index (users_of self.old) j → page_at (contents_area self.new) j ≡ page_at (contents_area self.old) j }
     {
-        if page.len() != PAGE_BYTES {
-            return None;
-        }
-        let fingerprint = fingerprint_of(page);
-        match find_page(&self.records, &self.bytes, fingerprint, page) {
+        let page = FingerprintedPage::new(page)?;
+        match self.find_page(&page) {
             Some(content) => self.share(content),
-            None => self.store(fingerprint, page),
+            None => self.store(&page),
         }
     }
 
@@ -71,7 +62,7 @@ impl Contents {
         if users == 0 {
             return;
         }
-        set_users(&mut self.records, content as usize, users - 1);
+        self.records[usize::from(content)].users = users - 1;
         if users == 1 {
             self.in_use -= 1;
         }
@@ -81,7 +72,8 @@ impl Contents {
 #[cfg(test)]
 mod tests {
     use super::*;
-    use crate::records::ContentRecord;
+    use crate::pages::fingerprint_of;
+    use page::PAGE_BYTES;
     use std::test::Fail;
 
     #[test]

@@ -1,16 +1,16 @@
 -- What an access keeps.
-use Rattle.std.proofs.Common.{◌≡◌, ℕ, zero, suc, ◌-◌, ◌<◌, ◌≤◌, true, false, eqb, List, [], ◌∷◌, length, get_or, Some, None, Option, sym, refl, ap, ◌∙◌, subst, inl, inr, arith, get_or-set_other, get_or-set_same}
+use Rattle.std.proofs.Common.{◌≡◌, ℕ, zero, suc, ◌<◌, ◌≤◌, true, false, eqb, List, [], ◌∷◌, length, get_or, Some, None, Option, sym, refl, ap, ◌∙◌, subst, inl, inr, arith, get_or-set_other, get_or-set_same}
 use Rattle.std.proofs.lemmas.List.{length-set}
 use Rattle.std.proofs.lemmas.Bool.{and_parts, cases_Bool, cases_eq, cond-true, cond-false, eqb-true}
 use Rattle.std.proofs.lemmas.Bool.Decides.{nat_tests}
 use Rattle.frames.specs.declared.pages.Page.{Page}
 use Rattle.frames.specs.declared.pages.Page.TheVariants.{File, Anonymous}
-use Rattle.frames.specs.Clock.{Clock, access, evictee, find, given, hit, holds, later, next_place, refilled, swept, taken}
+use Rattle.frames.specs.Clock.{Clock, access, evictee, find, given, hit, holds, later, refilled, swept, taken}
 use Rattle.frames.specs.Law.{Accessed, SoundClock, page_at}
 use Rattle.frames.specs.Pages.{same_page}
 use Rattle.frames.specs.Turn.{Turn, frames_on}
 use Rattle.frames.proofs.Found.{later_some}
-use Rattle.frames.proofs.Turns.{clock_turn}
+use Rattle.frames.proofs.Turns.{clock_turn, next_below}
 
 -- two pages are the same where the test says so
 
@@ -70,9 +70,6 @@ within (x ∷ xs) (suc i) p e = let l = within xs i p e in omega arith
 
 on_within : (n hand k : ℕ) → hand < n → k ≤ n → frames_on n hand k < n
 on_within n hand k h l = grind (arith, nat_tests)
-
-next_below : (n i : ℕ) → next_place n i ≤ n - 1
-next_below n i = grind (arith, nat_tests)
 
 module _ (c : Clock) (p : Page) (n : ℕ) (s : SoundClock n c) where
   hit_case : (i : ℕ) → find p c.pages ≡ Some i → Accessed c (hit c i) None p

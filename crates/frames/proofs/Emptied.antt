@@ -7,14 +7,12 @@ use Rattle.frames.specs.declared.pages.PageSet.{PageSet}
 use Rattle.frames.specs.declared.pages.PageSet.TheVariants.{All}
 use Rattle.frames.specs.declared.states.Frame.{Frame}
 use Rattle.frames.specs.declared.states.FrameEvent.TheVariants.{Emptying}
-use Rattle.frames.specs.declared.states.FrameState.{FrameState}
-use Rattle.frames.specs.declared.states.FrameState.TheVariants.{Empty, Clean, Dirty}
 use Rattle.frames.specs.declared.table.Frames.{Frames}
 use Rattle.frames.specs.Clock.{Clock, empty_clock, emptied, emptied_page, filled, lowered}
 use Rattle.frames.specs.Held.{blank, clock, dirties, dirty_in, emptied_frame, frames_of, marks_in, pages_in}
 use Rattle.frames.specs.Pages.{in_set}
-use Rattle.frames.specs.States.{after_event, dirty, held, held_in}
-use Rattle.frames.proofs.Views.{clean_emptied}
+use Rattle.frames.specs.States.{after_event, dirty, held}
+use Rattle.frames.proofs.Views.{clean_emptied, held_emptied}
 
 -- the frames below i have been emptied
 abbrev pub EmptiedBelow : PageSet → List Frame → List Frame → ℕ → Type 0
@@ -28,14 +26,13 @@ emptied_more s before after i f l len below e =
 
 -- what an emptied frame shows
 
-emptied_held : (t : Page → Bool) (s : FrameState) (p : Page) (m b : Bool) → t p ≡ b
-    → held (cond (filled (emptied_page t (held_in s p))) (record { state = s; page = p; marked = m }) (after_event (record { state = s; page = p; marked = m }) Emptying))
-    ≡ emptied_page t (held_in s p)
-emptied_held t Empty p m b e = refl
-emptied_held t Clean p m true e = rw e refl
-emptied_held t Clean p m false e = rw e refl
-emptied_held t Dirty p m true e = rw e refl
-emptied_held t Dirty p m false e = rw e refl
+emptied_held : (t : Page → Bool) (f : Frame) (x : Option Page) → held f ≡ x → held (cond (filled (emptied_page t x)) f (after_event f Emptying)) ≡ emptied_page t x
+emptied_held t f None e = held_emptied f.state
+emptied_held t f (Some p) e =
+    elim (t p) as (λ b. held (cond (filled (cond b None (Some p))) f (after_event f Emptying)) ≡ cond b None (Some p)) [
+      | true ↦ held_emptied f.state
+      | false ↦ e
+    ]
 
 emptied_mark : (b : Bool) (f : Frame) → (cond b f (after_event f Emptying)).marked ≡ cond b f.marked false
 emptied_mark true f = refl
@@ -52,7 +49,7 @@ stays s f = filled (emptied_page (in_set s) (held f))
 pub emptied_pages : (s : PageSet) (fs : List Frame) → pages_in (map (emptied_frame s) fs) ≡ map (emptied_page (in_set s)) (pages_in fs)
 emptied_pages s [] = refl
 emptied_pages s (f ∷ fs) =
-    let a = emptied_held (in_set s) f.state f.page f.marked (in_set s f.page) refl in
+    let a = emptied_held (in_set s) f (held f) refl in
     let b = emptied_pages s fs in
     cc
 

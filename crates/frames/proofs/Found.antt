@@ -1,40 +1,39 @@
 -- The first frame that holds a page.
-use Rattle.std.proofs.Common.{◌≡◌, ℕ, zero, suc, ◌+◌, ◌<◌, true, false, List, [], ◌∷◌, length, get_or, Some, None, Option, sym, refl, ap, ◌∙◌, inl, inr, arith}
-use Rattle.std.proofs.lemmas.List.{get_or_default}
-use Rattle.std.proofs.lemmas.Bool.{cases_Bool, cases_eq, cond-true, cond-false}
+use Rattle.std.proofs.Common.{◌≡◌, ℕ, suc, ◌+◌, true, List, [], ◌∷◌, get_or, Some, None, Option, sym, refl, ap, ◌∙◌, inl, inr, arith}
+use Rattle.std.proofs.lemmas.Bool.{cases_Bool, cond-true, cond-false}
+use Rattle.std.specs.List.{position, position_from}
+use Rattle.std.proofs.lemmas.Iterator.Adapters.{position_from-zero}
 use Rattle.frames.specs.declared.pages.Page.{Page}
 use Rattle.frames.specs.declared.states.Frame.{Frame}
 use Rattle.frames.specs.Clock.{filled, find, holds, later}
 use Rattle.frames.specs.Held.{pages_in}
 use Rattle.frames.specs.States.{held}
 
--- none of the frames below n holds the page
-abbrev pub NotBelow : Page → List Frame → ℕ → Type 0
-NotBelow p fs n = (k : ℕ) (d : Frame) → k < n → holds p (held (get_or fs k d)) ≡ false
+-- the library's search for the first frame that holds the page is that of the rule
 
-pub not_below_more : (p : Page) (fs : List Frame) (i : ℕ) (d : Frame) → i < length fs → NotBelow p fs i → holds p (held (get_or fs i d)) ≡ false
-    → NotBelow p fs (i + 1)
-not_below_more p fs i d l below here k e h =
-    elim (cases_eq k i) [
-      | inl q ↦ ap (λ n. holds p (held (get_or fs n e))) q ∙ ap (λ f. holds p (held f)) (get_or_default fs i e d l) ∙ here
-      | inr ne ↦ below k e (omega arith)
-    ]
+counted_on : ℕ → Option ℕ → Option ℕ
+counted_on i None = None
+counted_on i (Some k) = Some (i + k)
 
-pub find_first : (p : Page) (fs : List Frame) (i : ℕ) (d : Frame) → i < length fs → NotBelow p fs i → holds p (held (get_or fs i d)) ≡ true
-    → find p (pages_in fs) ≡ Some i
-unfolding find
-find_first p [] i d l below here = absurd (omega arith)
-find_first p (f ∷ fs) zero d l below here = cond-true _ _ _ here
-find_first p (f ∷ fs) (suc i) d l below here =
-    cond-false (holds p (held f)) (Some 0) (later (find p (pages_in fs))) (below 0 d (omega arith))
-    ∙ ap later (find_first p fs i d (omega arith) (λ k e h. below (suc k) e (omega arith)) here)
+counted_later : (i : ℕ) (o : Option ℕ) → counted_on (i + 1) o ≡ counted_on i (later o)
+unfolding counted_on
+counted_later i None = refl
+counted_later i (Some k) = ap Some (omega arith)
 
-pub find_none : (p : Page) (fs : List Frame) → NotBelow p fs (length fs) → find p (pages_in fs) ≡ None
-unfolding find
-find_none p [] below = refl
-find_none p (f ∷ fs) below =
-    cond-false (holds p (held f)) (Some 0) (later (find p (pages_in fs))) (below 0 f (omega arith))
-    ∙ ap later (find_none p fs (λ k e h. below (suc k) e (omega arith)))
+counted_none : (o : Option ℕ) → counted_on 0 o ≡ o
+unfolding counted_on
+counted_none None = refl
+counted_none (Some k) = ap Some (omega arith)
+
+found_from : (p : Page) (fs : List Frame) (i : ℕ) → position_from (λ f. holds p (held f)) i fs ≡ counted_on i (find p (pages_in fs))
+unfolding counted_on find
+found_from p [] i = refl
+found_from p (f ∷ fs) i =
+    let later_on = found_from p fs (i + 1) ∙ counted_later i (find p (pages_in fs)) in
+    elim (cases_Bool (holds p (held f))) [ inl h ↦ rw h (ap Some (omega arith)) | inr h ↦ rw h later_on ]
+
+pub find_is : (p : Page) (fs : List Frame) → position (λ f. holds p (held f)) fs ≡ find p (pages_in fs)
+find_is p fs = position_from-zero (λ f. holds p (held f)) fs ∙ found_from p fs 0 ∙ counted_none (find p (pages_in fs))
 
 -- a page is found in a frame that is filled
 

@@ -1,5 +1,6 @@
 -- The rule after any calls.
 use Rattle.std.proofs.Common.{◌≡◌, ℕ, zero, suc, ◌+◌, ◌-◌, ◌<◌, ◌≤◌, Bool, true, false, ◌⊎◌, List, [], ◌∷◌, length, get_or, set, replicate, Some, None, Option, sym, refl, ap, ◌∙◌, subst, inl, inr, arith, get_or-set_other, get_or-set_same}
+use Rattle.std.proofs.Math.ListN.{get_or-map}
 use Rattle.std.proofs.lemmas.List.{get_or_past, get_or-replicate, length-map, length-replicate, length-set, set-get_or}
 use Rattle.std.proofs.lemmas.Bool.{both_ways, cases_Bool, cases_eq, cases_lt, cond-true, cond-false, eqb-false, ltb-false, not-false}
 use Rattle.frames.specs.declared.pages.Page.{Page}
@@ -10,7 +11,6 @@ use Rattle.frames.specs.Law.{RuleLaw, SoundClock, SoundShape, page_at}
 use Rattle.frames.specs.Pages.{Dimensions, file_from, same_page}
 use Rattle.frames.specs.Rule.{Call, Check, Rule, Shape, admit, admitted_as, admission, check, clock_of, closing, evicts, first, is_admitted, is_closed, is_in, leave, leave_below, leaving, moved, new_shape, no_frames, no_guest, no_page, not_a_page_long, not_admitted, opened_as, opening, past_the_page, question, read, release, rule_after, rule_step, sync, truncation, with_clock, write}
 use Rattle.frames.proofs.Accesses.{accessed, access_sound}
-use Rattle.frames.proofs.Tables.{seen}
 
 -- empty frames
 
@@ -51,7 +51,7 @@ emptied_sound f t c s = record {
 }
   where
     before : (i : ℕ) (p : Page) → page_at (emptied t c) i ≡ Some p → page_at c i ≡ Some p
-    before i p h = was_there t (page_at c i) p (sym (seen (emptied_page t) c.pages i None) ∙ h)
+    before i p h = was_there t (page_at c i) p (sym (get_or-map (emptied_page t) c.pages i None) ∙ h)
 
 -- one guest changes
 

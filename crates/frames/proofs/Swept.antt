@@ -1,6 +1,7 @@
 -- The hand as it goes round: each step of the loop is a step of the rule's sweep.
-use Rattle.std.proofs.Common.{◌≡◌, ℕ, zero, suc, ◌+◌, ◌<◌, ◌≤◌, Bool, true, false, cond, ◌&&◌, List, map, length, get_or, set, None, count_by, sym, refl, ap, ◌∙◌, arith}
-use Rattle.std.proofs.lemmas.List.{get_or-map, length-map, length-set, map-set, set-get_or}
+use Rattle.std.proofs.Common.{◌≡◌, ℕ, zero, suc, ◌+◌, ◌<◌, ◌≤◌, Bool, true, false, cond, ◌&&◌, List, length, get_or, set, None, count_by, sym, refl, ap, ◌∙◌, arith}
+use Rattle.std.proofs.lemmas.List.{get_or-map, length-map, length-set, map-set}
+use Rattle.std.proofs.Math.Seq.{map-set_same}
 use Rattle.std.proofs.lemmas.List.Sums.{count_by-le-length, sum_by-set}
 use Rattle.std.proofs.lemmas.Bool.{and_parts, cond-true, cond-false}
 use Rattle.std.proofs.lemmas.Bool.Decides.{nat_tests}
@@ -14,7 +15,7 @@ abbrev pub passed : Frame → Bool
 passed f = filled (held f) && f.marked
 
 abbrev pub unmarked : Frame → Frame
-unmarked f = record { state = f.state; page = f.page; marked = false }
+unmarked f = record { state = f.state; marked = false }
 
 -- how many frames are marked
 abbrev pub marks_left : List Frame → ℕ
@@ -41,14 +42,6 @@ passes_is fs i d l =
 
 cleared_marks : (fs : List Frame) (i : ℕ) (d : Frame) → marks_in (set fs i (unmarked (get_or fs i d))) ≡ set (marks_in fs) i false
 cleared_marks fs i d = map-set (λ (f : Frame). f.marked) fs i (unmarked (get_or fs i d))
-
-kept_by_clearing : {B : Type 0} (see : Frame → B) → ((f : Frame) → see (unmarked f) ≡ see f) → (fs : List Frame) (i : ℕ) (d : Frame)
-    → map see (set fs i (unmarked (get_or fs i d))) ≡ map see fs
-kept_by_clearing see same fs i d =
-    map-set see fs i (unmarked (get_or fs i d))
-    ∙ ap (set (map see fs) i) (same (get_or fs i d))
-    ∙ sym (map-set see fs i (get_or fs i d))
-    ∙ ap (map see) (set-get_or fs i d)
 
 pub fewer : (fs : List Frame) (i : ℕ) (d : Frame) → i < length fs → (get_or fs i d).marked ≡ true
     → marks_left (set fs i (unmarked (get_or fs i d))) + 1 ≡ marks_left fs
@@ -82,8 +75,8 @@ module _ (before after : List Frame) (hand place : ℕ) (d : Frame) where
           len = length-set after place (unmarked (get_or after place d)) ∙ t.len;
           within = let w = t.within in grind (arith, nat_tests);
           enough = omega (arith, t.enough, fewer after place d l (and_parts (filled (held (get_or after place d))) _ p).1);
-          pages = kept_by_clearing held (λ f. refl) after place d ∙ t.pages;
-          dirty = kept_by_clearing dirty (λ f. refl) after place d ∙ t.dirty;
+          pages = map-set_same held after place (unmarked (get_or after place d)) d refl ∙ t.pages;
+          dirty = map-set_same dirty after place (unmarked (get_or after place d)) d refl ∙ t.dirty;
           goes_on =
               ap (λ ms. sweep steps (pages_in before) ms (next_place (length before) place)) (cleared_marks after place d)
               ∙ ap (λ n. sweep steps (pages_in before) (set (marks_in after) place false) (next_place n place)) (sym (length-map before held))

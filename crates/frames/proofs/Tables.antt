@@ -5,17 +5,17 @@ use Rattle.frames.specs.declared.states.Frame.{Frame}
 use Rattle.frames.specs.declared.table.Frames.{Frames}
 use Rattle.frames.specs.Held.{frames_of}
 
--- an element of a mapped list, past its end too
-pub seen : {X Y : Type 0} (see : X → Y) (xs : List X) (i : ℕ) (d : X) → get_or (map see xs) i (see d) ≡ see (get_or xs i d)
-seen see [] i d = refl
-seen see (x ∷ xs) zero d = refl
-seen see (x ∷ xs) (suc i) d = seen see xs i d
+-- an element that is set twice, past the end too
+pub set_again : {X : Type 0} (xs : List X) (i : ℕ) (x y : X) → set (set xs i x) i y ≡ set xs i y
+set_again [] i x y = refl
+set_again (z ∷ xs) zero x y = refl
+set_again (z ∷ xs) (suc i) x y = ap (λ l. z ∷ l) (set_again xs i x y)
 
-pub take_of_set : {X : Type 0} (n : ℕ) (xs : List X) (i : ℕ) (x : X) → take n (set xs i x) ≡ set (take n xs) i x
-take_of_set zero xs i x = refl
-take_of_set (suc n) [] i x = refl
-take_of_set (suc n) (y ∷ xs) zero x = refl
-take_of_set (suc n) (y ∷ xs) (suc i) x = ap (λ l. y ∷ l) (take_of_set n xs i x)
+-- where one that is read past the end is set
+pub get_set_same : {X : Type 0} (xs : List X) (i : ℕ) (d : X) → get_or (set xs i d) i d ≡ d
+get_set_same [] i d = refl
+get_set_same (x ∷ xs) zero d = refl
+get_set_same (x ∷ xs) (suc i) d = get_set_same xs i d
 
 pub map_replicate : {X Y : Type 0} (f : X → Y) (n : ℕ) (x : X) → map f (replicate n x) ≡ replicate n (f x)
 map_replicate f zero x = refl
@@ -27,10 +27,6 @@ count_of fs = length-take-le fs.count fs.table (omega (arith, fs.full, fs.few))
 -- the part of a table from its start, as the code lends it
 pub from_start : {X : Type 0} (xs : List X) (n : ℕ) → take (n - 0) (drop 0 xs) ≡ take n xs
 from_start xs n = search rules
-
--- a table whose first frames have been written
-pub part_length : (fs : Frames) (ys : List Frame) → length ys ≡ fs.count → length (ys ++ drop (fs.count - 0) (drop 0 fs.table)) ≡ 16
-part_length fs ys e = let a = fs.full in let b = fs.few in simp (length-append, length-drop) (omega arith)
 
 -- the frames as the code lends them
 abbrev pub lent : Frames → List Frame

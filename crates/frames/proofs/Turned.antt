@@ -1,5 +1,5 @@
 -- The hand of the code and the hand of the rule take the same frame.
-use Rattle.std.proofs.Common.{◌≡◌, ℕ, ◌-◌, ◌<◌, ◌≤◌, Bool, List, length, set, Option, sym, ap, ◌∙◌, subst, arith}
+use Rattle.std.proofs.Common.{◌≡◌, ℕ, ◌<◌, Bool, List, length, set, Option, sym, ap, ◌∙◌, subst, arith}
 use Rattle.std.proofs.lemmas.List.{length-map, set_past}
 use Rattle.std.proofs.lemmas.Bool.Decides.{nat_tests}
 use Rattle.frames.specs.declared.pages.Page.{Page}
@@ -43,9 +43,6 @@ module _ (fs after : Frames) (ys : List Frame) (is : frames_of after ≡ ys) whe
 
 pub swept_long : (fs : Frames) (ys : List Frame) → pages_in ys ≡ pages_in (lent fs) → length ys ≡ fs.count
 swept_long fs ys e = lent_long fs ys (sym (length-map ys held) ∙ ap length e ∙ length-map (lent fs) held)
-
-pub next_within : (n i : ℕ) → i < n → next_place n i ≤ n - 1
-next_within n i l = grind (arith, nat_tests)
 
 on_a_frame : (fs : Frames) → (fs.count ≡ 0 → ⊥) → (clock fs).hand < length (clock fs).pages
 unfolding clock

@@ -1,11 +1,12 @@
 -- The rule's sweep is a turn of the hand.
-use Rattle.std.proofs.Common.{◌≡◌, ℕ, zero, suc, ◌+◌, ◌<◌, ◌≤◌, Bool, true, false, cond, List, [], ◌∷◌, length, get_or, set, None, Option, sym, refl, ap, ◌∙◌, subst, inl, inr, arith, get_or-set_other}
+use Rattle.std.proofs.Common.{◌≡◌, ℕ, zero, suc, ◌+◌, ◌-◌, ◌<◌, ◌≤◌, Bool, true, false, cond, List, [], ◌∷◌, length, get_or, set, None, Option, sym, refl, ap, ◌∙◌, subst, inl, inr, arith, get_or-set_other}
 use Rattle.std.proofs.lemmas.List.{length-set}
 use Rattle.std.proofs.lemmas.Bool.{and_from, and_parts, both_ways, cases_Bool, cases_eq, cases_lt, cond-true, cond-false}
 use Rattle.std.proofs.lemmas.Bool.Decides.{nat_tests}
 use Rattle.frames.specs.declared.pages.Page.{Page}
 use Rattle.frames.specs.Clock.{Clock, filled, next_place, passes, sweep, swept, taken}
 use Rattle.frames.specs.Turn.{Passing, Turn, frames_on}
+use Rattle.frames.proofs.Tables.{get_set_same}
 
 -- how many marks are set
 abbrev marks_set : List Bool → ℕ
@@ -22,10 +23,9 @@ at_most_all [] = omega arith
 at_most_all (true ∷ ms) = let r = at_most_all ms in omega arith
 at_most_all (false ∷ ms) = let r = at_most_all ms in omega arith
 
-cleared_at : (ms : List Bool) (i : ℕ) → get_or (set ms i false) i false ≡ false
-cleared_at [] i = refl
-cleared_at (m ∷ ms) zero = refl
-cleared_at (m ∷ ms) (suc i) = cleared_at ms i
+-- the next place is one of the places, if there are any
+pub next_below : (n i : ℕ) → next_place n i ≤ n - 1
+next_below n i = grind (arith, nat_tests)
 
 module _ (n hand : ℕ) (h : hand < n) where
   one_on : (k : ℕ) → k < n → frames_on n hand (k + 1) ≡ next_place n (frames_on n hand k)
@@ -71,7 +71,7 @@ module _ (pages : List (Option Page)) (before after : List Bool) (hand : ℕ) (h
       | inr ne ↦ p.passed j (omega arith)
     ];
     cleared = λ j l. elim (cases_eq (frames_on (length pages) hand j) i) [
-      | inl q ↦ ap (λ (x : ℕ). get_or (set after i false) x false) q ∙ cleared_at after i
+      | inl q ↦ ap (λ (x : ℕ). get_or (set after i false) x false) q ∙ get_set_same after i false
       | inr ne ↦
           let jk : j < k = elim (cases_eq j k) [ inl q ↦ absurd (ne (ap (frames_on (length pages) hand) q ∙ sym p.arrives)) | inr d ↦ omega arith ] in
           get_or-set_other after i (frames_on (length pages) hand j) false false ne ∙ p.cleared j jk

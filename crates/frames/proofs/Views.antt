@@ -1,5 +1,5 @@
 -- What a change of one frame changes in the clock and in the dirty flags.
-use Rattle.std.proofs.Common.{◌≡◌, ℕ, ◌≤◌, Bool, true, false, ◌||◌, map, length, get_or, take, set, replicate, is_some, Some, None, Option, sym, refl, ap, ◌∙◌}
+use Rattle.std.proofs.Common.{◌≡◌, ℕ, ◌≤◌, Bool, true, false, ◌||◌, map, length, get_or, take, set, replicate, Some, None, Option, sym, refl, ap, ◌∙◌}
 use Rattle.std.proofs.lemmas.List.{length-map, map-set, set-get_or, take-replicate}
 use Rattle.std.proofs.lemmas.Bool.{false≢true}
 use Rattle.frames.specs.declared.pages.Page.{Page}
@@ -13,7 +13,8 @@ use Rattle.frames.specs.declared.table.Frames.{Frames}
 use Rattle.frames.specs.Clock.{Clock, empty_clock, filled}
 use Rattle.frames.specs.Held.{blank, clock, dirties, frames_of, is_write}
 use Rattle.frames.specs.States.{dirty, event_of, held, held_in, is_dirty, next_mark, next_state}
-use Rattle.frames.proofs.Tables.{count_of, map_replicate, seen}
+use Rattle.std.proofs.Math.ListN.{get_or-map}
+use Rattle.frames.proofs.Tables.{count_of, map_replicate}
 
 abbrev pub with_frame : Clock → ℕ → Option Page → Bool → Clock
 with_frame c i x m = record { pages = set c.pages i x; marks = set c.marks i m; hand = c.hand }
@@ -34,15 +35,15 @@ module _ (before after : Frames) (i : ℕ) (f : Frame) (e : frames_of after ≡ 
 -- what is seen of a frame, also where there is no such frame
 pub page_seen : (fs : Frames) (i : ℕ) → get_or (clock fs).pages i None ≡ held (get_or (frames_of fs) i blank)
 unfolding clock
-page_seen fs i = seen held (frames_of fs) i blank
+page_seen fs i = get_or-map held (frames_of fs) i blank
 
 pub mark_seen : (fs : Frames) (i : ℕ) → get_or (clock fs).marks i false ≡ (get_or (frames_of fs) i blank).marked
 unfolding clock
-mark_seen fs i = seen (λ (f : Frame). f.marked) (frames_of fs) i blank
+mark_seen fs i = get_or-map (λ (f : Frame). f.marked) (frames_of fs) i blank
 
 pub dirty_seen : (fs : Frames) (i : ℕ) → get_or (dirties fs) i false ≡ dirty (get_or (frames_of fs) i blank)
 unfolding dirties
-dirty_seen fs i = seen dirty (frames_of fs) i blank
+dirty_seen fs i = get_or-map dirty (frames_of fs) i blank
 
 -- a frame that is set to what it holds
 pub pages_same : (fs : Frames) (i : ℕ) → set (clock fs).pages i (held (get_or (frames_of fs) i blank)) ≡ (clock fs).pages
@@ -55,10 +56,6 @@ pub clock_same : (fs : Frames) (i : ℕ) → with_frame (clock fs) i (held (get_
 clock_same fs i =
     ap (λ ps. record { pages = ps; marks = set (clock fs).marks i (get_or (frames_of fs) i blank).marked; hand = (clock fs).hand }) (pages_same fs i)
     ∙ ap (λ ms. record { pages = (clock fs).pages; marks = ms; hand = (clock fs).hand }) (marks_same fs i)
-
-pub some_filled : (x : Option Page) → is_some x ≡ filled x
-some_filled None = refl
-some_filled (Some p) = refl
 
 -- there are as many marks and flags as frames
 
@@ -92,46 +89,56 @@ module _ (fs : Frames) (n : ℕ) (table : fs.table ≡ replicate 16 blank) (coun
 
 -- each event, as it shows in a frame's page and flag
 
-pub held_emptied : (s : FrameState) (p : Page) → held_in (next_state s Emptying) p ≡ None
-held_emptied Empty p = refl
-held_emptied Clean p = refl
-held_emptied Dirty p = refl
+pub state_emptied : (s : FrameState) → next_state s Emptying ≡ Empty
+state_emptied Empty = refl
+state_emptied (Clean p) = refl
+state_emptied (Dirty p) = refl
+
+pub held_emptied : (s : FrameState) → held_in (next_state s Emptying) ≡ None
+held_emptied s = ap held_in (state_emptied s)
 
 pub clean_emptied : (s : FrameState) → is_dirty (next_state s Emptying) ≡ false
-clean_emptied Empty = refl
-clean_emptied Clean = refl
-clean_emptied Dirty = refl
+clean_emptied s = ap is_dirty (state_emptied s)
 
-pub held_written_back : (s : FrameState) (p : Page) → held_in (next_state s WriteBack) p ≡ held_in s p
-held_written_back Empty p = refl
-held_written_back Clean p = refl
-held_written_back Dirty p = refl
+pub held_written_back : (s : FrameState) → held_in (next_state s WriteBack) ≡ held_in s
+held_written_back Empty = refl
+held_written_back (Clean p) = refl
+held_written_back (Dirty p) = refl
 
 pub clean_written_back : (s : FrameState) → is_dirty (next_state s WriteBack) ≡ false
 clean_written_back Empty = refl
-clean_written_back Clean = refl
-clean_written_back Dirty = refl
+clean_written_back (Clean p) = refl
+clean_written_back (Dirty p) = refl
 
-pub held_accessed : (s : FrameState) (p : Page) (a : Access) → filled (held_in s p) ≡ true → held_in (next_state s (event_of a)) p ≡ held_in s p
-held_accessed Empty p A.Read h = absurd (false≢true h)
-held_accessed Empty p A.Write h = absurd (false≢true h)
-held_accessed Clean p A.Read h = refl
-held_accessed Clean p A.Write h = refl
-held_accessed Dirty p A.Read h = refl
-held_accessed Dirty p A.Write h = refl
+pub held_accessed : (s : FrameState) (a : Access) (q : Page) → filled (held_in s) ≡ true → held_in (next_state s (event_of a q)) ≡ held_in s
+held_accessed Empty a q h = absurd (false≢true h)
+held_accessed (Clean p) A.Read q h = refl
+held_accessed (Clean p) A.Write q h = refl
+held_accessed (Dirty p) A.Read q h = refl
+held_accessed (Dirty p) A.Write q h = refl
 
-pub dirty_accessed : (s : FrameState) (a : Access) → is_dirty (next_state s (event_of a)) ≡ (is_dirty s || is_write a)
-dirty_accessed Empty A.Read = refl
-dirty_accessed Empty A.Write = refl
-dirty_accessed Clean A.Read = refl
-dirty_accessed Clean A.Write = refl
-dirty_accessed Dirty A.Read = refl
-dirty_accessed Dirty A.Write = refl
+pub dirty_accessed : (s : FrameState) (a : Access) (q : Page) → is_dirty (next_state s (event_of a q)) ≡ (is_dirty s || is_write a)
+dirty_accessed Empty A.Read q = refl
+dirty_accessed Empty A.Write q = refl
+dirty_accessed (Clean p) A.Read q = refl
+dirty_accessed (Clean p) A.Write q = refl
+dirty_accessed (Dirty p) A.Read q = refl
+dirty_accessed (Dirty p) A.Write q = refl
 
-pub marked_accessed : (m : Bool) (a : Access) → next_mark m (event_of a) ≡ true
-marked_accessed m A.Read = refl
-marked_accessed m A.Write = refl
+pub marked_accessed : (m : Bool) (a : Access) (q : Page) → next_mark m (event_of a q) ≡ true
+marked_accessed m A.Read q = refl
+marked_accessed m A.Write q = refl
 
-pub held_filled : (p : Page) (a : Access) → held_in (next_state Empty (event_of a)) p ≡ Some p
-held_filled p A.Read = refl
-held_filled p A.Write = refl
+-- an empty frame that is accessed
+
+pub held_filled : (s : FrameState) (a : Access) (q : Page) → held_in s ≡ None → held_in (next_state s (event_of a q)) ≡ Some q
+held_filled Empty A.Read q e = refl
+held_filled Empty A.Write q e = refl
+held_filled (Clean p) a q e = cc
+held_filled (Dirty p) a q e = cc
+
+pub dirty_filled : (s : FrameState) (a : Access) (q : Page) → held_in s ≡ None → is_dirty (next_state s (event_of a q)) ≡ is_write a
+dirty_filled Empty A.Read q e = refl
+dirty_filled Empty A.Write q e = refl
+dirty_filled (Clean p) a q e = cc
+dirty_filled (Dirty p) a q e = cc

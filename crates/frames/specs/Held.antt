@@ -1,7 +1,6 @@
 -- What the code's frames stand for: a clock, and for each frame whether its page is dirty.
 use Rattle.std.specs.Prelude.{ℕ, Bool, true, false, cond, ◌||◌, List, map, take, Option, slice_index_or, slice_set}
 use Rattle.frames.specs.declared.pages.Page.{Page}
-use Rattle.frames.specs.declared.pages.Page.TheVariants.{File}
 use Rattle.frames.specs.declared.pages.PageSet.{PageSet}
 use Rattle.frames.specs.declared.states.Access.{Access}
 use Rattle.frames.specs.declared.states.Access.TheVariants.{Read, Write}
@@ -15,7 +14,7 @@ use Rattle.frames.specs.States.{after_event, dirty, held}
 
 -- what a read past the end of a table would give
 abbrev pub blank : Frame
-blank = record { state = Empty; page = File 0 0; marked = false }
+blank = record { state = Empty; marked = false }
 
 abbrev pub marks_in : List Frame → List Bool
 marks_in = map (λ f. f.marked)

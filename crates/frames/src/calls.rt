@@ -5,7 +5,7 @@ ghost use Rattle.frames.specs.Held.{blank, clock, dirties, frames_of, hit_dirty,
 ghost use Rattle.frames.specs.Pages.{in_set};
 ghost use Rattle.frames.specs.States.{after_event};
 
-use super::hand::{empty_pages, find_page};
+use super::hand::empty_pages;
 use super::pages::{Page, PageSet};
 use super::states::{Access, Frame, FrameEvent};
 use super::table::{Frames, MOST_FRAMES};
@@ -41,18 +41,21 @@ impl Frames {
     pub fn find(&self, page: Page) -> Option<usize>
         ensures { result ≡ find page (clock self.now).pages }
     {
-        find_page(&self.table[0..self.count], page)
+        self.frames().iter().position(|frame| frame.holds(page))
+    }
+
+    // The frames that the guest has, of those that there is room for.
+    fn frames(&self) -> &[Frame]
+        ensures { result.now ≡ frames_of self.now }
+    {
+        &self.table[..self.count]
     }
 
     // A frame, or a vacant one where there is no such frame.
     fn at(&self, frame: usize) -> Frame
         ensures { result ≡ slice_index_or (frames_of self.now) frame blank }
     {
-        if frame < self.count {
-            self.table[frame]
-        } else {
-            Frame::VACANT
-        }
+        self.frames().get(frame).copied().unwrap_or(Frame::VACANT)
     }
 
     /// The page in a frame.
@@ -76,24 +79,14 @@ impl Frames {
         self.at(frame).is_dirty()
     }
 
-    // Puts another frame in a frame's place, if there is such a place.
-    fn replace(&mut self, place: usize, frame: Frame)
-        ensures frames { frames_of self.new ≡ slice_set (frames_of self.old) place frame }
-        ensures hand { self.new.hand ≡ self.old.hand }
-    {
-        if place < self.count {
-            self.table[place] = frame;
-        }
-    }
-
     // Applies an event to a frame, if there is such a frame.
     fn apply(&mut self, place: usize, event: FrameEvent)
         ensures frames { frames_of self.new ≡ slice_set (frames_of self.old) place (after_event (slice_index_or (frames_of self.old) place blank) event) }
         ensures hand { self.new.hand ≡ self.old.hand }
     {
-        let mut frame = self.at(place);
-        frame.apply(event);
-        self.replace(place, frame);
+        if place < self.count {
+            self.table[place].apply(event);
+        }
     }
 
     /// An access to the page in a frame, if it holds one.
@@ -101,8 +94,8 @@ impl Frames {
         ensures clock { clock self.new ≡ (if filled (slice_index_or (clock self.old).pages frame None) then hit (clock self.old) frame else clock self.old) }
         ensures dirty { dirties self.new ≡ (if filled (slice_index_or (clock self.old).pages frame None) then hit_dirty (dirties self.old) frame kind else dirties self.old) }
     {
-        if self.page_in(frame).is_some() {
-            self.apply(frame, kind.event());
+        if let Some(held) = self.page_in(frame) {
+            self.apply(frame, kind.event(held));
         }
     }
 
@@ -111,12 +104,8 @@ impl Frames {
         ensures clock { clock self.new ≡ put_in (clock self.old) frame (Some page) }
         ensures dirty { dirties self.new ≡ slice_set (dirties self.old) frame (is_write kind) }
     {
-        let mut filled = Frame {
-            page,
-            ..Frame::VACANT
-        };
-        filled.apply(kind.event());
-        self.replace(frame, filled);
+        self.empty(frame);
+        self.apply(frame, kind.event(page));
     }
 
     /// The page in a frame has been written back: it is dirty no more.
@@ -140,8 +129,7 @@ impl Frames {
         ensures clock { clock self.new ≡ emptied (in_set pages) (clock self.old) }
         ensures dirty { dirties self.new ≡ lowered (in_set pages) (clock self.old).pages (dirties self.old) }
     {
-        let count = self.count;
-        empty_pages(&mut self.table[0..count], pages);
+        empty_pages(&mut self.table[0..self.count], pages);
     }
 
     /// Empties every frame. The hand stays.

@@ -21,8 +21,7 @@ impl Frames {
         if count == 0 {
             return None;
         }
-        let hand = self.hand;
-        let frame = sweep_from(&mut self.table[0..count], hand);
+        let frame = sweep_from(&mut self.table[0..count], self.hand);
         self.hand = next_place(frame, count);
         Some(frame)
     }

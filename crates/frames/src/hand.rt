@@ -1,9 +1,9 @@
-//! One pass over a guest's frames: the search for a page, the hand, and emptying.
+//! One pass over a guest's frames: the hand, and emptying.
 ghost use Rattle.std.specs.Prelude.{◌≡◌, ◌<◌, map, length};
-ghost use Rattle.frames.specs.Clock.{find, next_place, sweep};
+ghost use Rattle.frames.specs.Clock.{next_place, sweep};
 ghost use Rattle.frames.specs.Held.{pages_in, marks_in, dirty_in, emptied_frame};
 
-use super::pages::{Page, PageSet};
+use super::pages::PageSet;
 use super::states::{Frame, FrameEvent};
 
 // The place after `i` in a ring of `count`.
@@ -12,18 +12,6 @@ pub(crate) fn next_place(i: usize, count: usize) -> usize
     ensures { result ≡ next_place count i }
 {
     if i + 1 < count { i + 1 } else { 0 }
-}
-
-// The first frame that holds the page.
-pub(crate) fn find_page(frames: &[Frame], page: Page) -> Option<usize>
-    ensures { result ≡ find page (pages_in frames.now) }
-{
-    for (i, frame) in frames.iter().enumerate() {
-        if frame.holds(page) {
-            return Some(i);
-        }
-    }
-    None
 }
 
 // The frame that the hand stops at. The marks that it passes are cleared.
@@ -36,6 +24,7 @@ pub(crate) fn sweep_from(frames: &mut [Frame], hand: usize) -> usize
     ensures within { result < length frames.old }
 {
     let mut place = hand;
+    // A `loop` that yields the frame by `break`: a form that the rules ask for.
     'turn: loop {
         if !frames[place].is_passed() {
             break 'turn place;

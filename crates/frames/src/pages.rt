@@ -1,6 +1,6 @@
 //! A guest's pages, sets of them, and the keys that stand for them.
-ghost use Rattle.std.specs.Prelude.{◌≡◌, ℕ, IfSome};
-ghost use Rattle.frames.specs.Pages.{NamesOnly, file_from, in_set, page_key, same_page};
+ghost use Rattle.std.specs.Prelude.{◌≡◌, IfSome};
+ghost use Rattle.frames.specs.Pages.{NamesOnly, file_from, in_set, page_key};
 
 use page::Key;
 
@@ -29,24 +29,11 @@ impl Page {
         }
     }
 
-    /// Whether two pages of a guest are the same.
-    pub fn is(self, other: Page) -> bool
-        ensures { result ≡ same_page self other }
-    {
-        self == other
-    }
-
     /// Whether it is a page of the file, from the index on.
     pub fn is_from(self, file: u8, index: u16) -> bool
         ensures { result ≡ file_from file index self }
     {
-        match self {
-            Page::File {
-                file: of,
-                index: at,
-            } => of == file && at >= index,
-            Page::Anonymous { .. } => false,
-        }
+        matches!(self, Page::File { file: of, index: at } if of == file && at >= index)
     }
 }
 
@@ -68,7 +55,7 @@ impl PageSet {
     {
         match self {
             PageSet::FileFrom { file, index } => page.is_from(file, index),
-            PageSet::One(one) => one.is(page),
+            PageSet::One(one) => one == page,
             PageSet::All => true,
         }
     }

@@ -5,15 +5,15 @@ ghost use Rattle.frames.specs.Refusals.{refusal_number};
 /// Why the host refuses a call. The frame rule tells all of them but a lost page, which depends on what the pile holds.
 #[derive(Clone, Copy, PartialEq, Eq, Debug)]
 pub enum HostRefusal {
-    Closed,
-    OpenAlready,
-    NoSuchGuest,
-    NotAdmitted,
-    AdmittedAlready,
-    NoSuchPage,
-    BadLength,
-    NoFrames,
-    PageLost,
+    Closed = 1,
+    OpenAlready = 2,
+    NoSuchGuest = 3,
+    NotAdmitted = 4,
+    AdmittedAlready = 5,
+    NoSuchPage = 6,
+    BadLength = 7,
+    NoFrames = 8,
+    PageLost = 9,
 }
 
 impl HostRefusal {
@@ -21,16 +21,6 @@ impl HostRefusal {
     pub fn number(self) -> u8
         ensures { result ≡ refusal_number self }
     {
-        match self {
-            HostRefusal::Closed => 1,
-            HostRefusal::OpenAlready => 2,
-            HostRefusal::NoSuchGuest => 3,
-            HostRefusal::NotAdmitted => 4,
-            HostRefusal::AdmittedAlready => 5,
-            HostRefusal::NoSuchPage => 6,
-            HostRefusal::BadLength => 7,
-            HostRefusal::NoFrames => 8,
-            HostRefusal::PageLost => 9,
-        }
+        self as u8
     }
 }

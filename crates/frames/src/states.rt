@@ -6,19 +6,19 @@ ghost use Rattle.frames.specs.States.{after_event, dirty, event_of, held};
 
 use super::pages::{Page, PageSet};
 
-/// Whether a frame holds a page, and whether that page was written since it came or was written back.
+/// The page that a frame holds, if it holds one, and whether that page was written since it came or was written back.
 #[derive(Clone, Copy, PartialEq, Eq)]
 pub enum FrameState {
     Empty,
-    Clean,
-    Dirty,
+    Clean(Page),
+    Dirty(Page),
 }
 
-/// What happens to a frame.
+/// What happens to a frame. An access is to a page, which an empty frame then holds.
 #[derive(Clone, Copy)]
 pub enum FrameEvent {
-    Read,
-    Write,
+    Read(Page),
+    Write(Page),
     WriteBack,
     Emptying,
 }
@@ -31,22 +31,21 @@ pub enum Access {
 }
 
 impl Access {
-    /// What the access does to the frame.
-    pub fn event(self) -> FrameEvent
-        ensures { result ≡ event_of self }
+    /// What the access to a page does to its frame.
+    pub fn event(self, page: Page) -> FrameEvent
+        ensures { result ≡ event_of self page }
     {
         match self {
-            Access::Read => FrameEvent::Read,
-            Access::Write => FrameEvent::Write,
+            Access::Read => FrameEvent::Read(page),
+            Access::Write => FrameEvent::Write(page),
         }
     }
 }
 
-/// A frame. It holds its page only while it is not empty.
+/// A frame.
 #[derive(Clone, Copy)]
 pub struct Frame {
     pub(crate) state: FrameState,
-    pub(crate) page: Page,
     pub(crate) marked: bool,
 }
 
@@ -54,7 +53,6 @@ impl Frame {
     /// A frame that holds nothing yet.
     pub const VACANT: Frame = Frame {
         state: FrameState::Empty,
-        page: Page::File { file: 0, index: 0 },
         marked: false,
     };
 
@@ -64,7 +62,7 @@ impl Frame {
     {
         match self.state {
             FrameState::Empty => None,
-            FrameState::Clean | FrameState::Dirty => Some(self.page),
+            FrameState::Clean(page) | FrameState::Dirty(page) => Some(page),
         }
     }
 
@@ -72,27 +70,21 @@ impl Frame {
     pub fn is_dirty(self) -> bool
         ensures { result ≡ dirty self }
     {
-        self.state == FrameState::Dirty
+        matches!(self.state, FrameState::Dirty(_))
     }
 
     // Whether it holds the page.
     pub(crate) fn holds(self, page: Page) -> bool
         ensures { result ≡ holds page (held self) }
     {
-        match self.page() {
-            Some(held) => page.is(held),
-            None => false,
-        }
+        self.page() == Some(page)
     }
 
     // Whether it holds a page that is not in the set.
     pub(crate) fn stays(self, pages: PageSet) -> bool
         ensures { result ≡ filled (emptied_page (in_set pages) (held self)) }
     {
-        match self.page() {
-            Some(held) => !pages.contains(held),
-            None => false,
-        }
+        self.page().is_some_and(|page| !pages.contains(page))
     }
 
     // Whether the hand passes over it: it holds a page and is marked.
@@ -106,18 +98,21 @@ impl Frame {
     pub fn apply(&mut self, event: FrameEvent)
         ensures { self.new ≡ after_event self.old event }
     {
+        use FrameEvent::{Emptying, Read, Write, WriteBack};
+        use FrameState::{Clean, Dirty, Empty};
+        // An arm that takes the page out of the state cannot bind the state as well.
         match (&mut self.state, event) {
-            (state @ FrameState::Empty, FrameEvent::Read) => *state = FrameState::Clean,
-            (state @ FrameState::Empty, FrameEvent::Write) => *state = FrameState::Dirty,
-            (state @ FrameState::Clean, FrameEvent::Write) => *state = FrameState::Dirty,
-            (state @ FrameState::Dirty, FrameEvent::WriteBack) => *state = FrameState::Clean,
-            (state, FrameEvent::Emptying) => *state = FrameState::Empty,
+            (state @ Empty, Read(page)) => *state = Clean(page),
+            (state @ Empty, Write(page)) => *state = Dirty(page),
+            (Clean(page), Write(_)) => self.state = Dirty(*page),
+            (Dirty(page), WriteBack) => self.state = Clean(*page),
+            (state, Emptying) => *state = Empty,
             (_, _) => {}
         }
         match event {
-            FrameEvent::Read | FrameEvent::Write => self.marked = true,
-            FrameEvent::Emptying => self.marked = false,
-            FrameEvent::WriteBack => {}
+            Read(_) | Write(_) => self.marked = true,
+            Emptying => self.marked = false,
+            WriteBack => {}
         }
     }
 }

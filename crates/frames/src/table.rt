@@ -9,6 +9,7 @@ pub const MOST_FRAMES: usize = 16;
 /// A guest's frames and its hand, which stands on one of them.
 #[derive(Clone, Copy)]
 pub struct Frames {
+    // An array and how many of its frames are used, since a guest's frames are Copy and an ArrayVec is not.
     pub(crate) count: usize,
     pub(crate) table: [Frame; MOST_FRAMES],
     pub(crate) hand: usize,

@@ -1,5 +1,4 @@
-use Rattle.std.proofs.Common.{◌≡◌, ◌+◌, List, get_or, set, sym, ◌∙◌, subst, rules}
-use Rattle.std.proofs.lemmas.List.{drop_all, take_all}
+use Rattle.std.proofs.Common.{◌≡◌, ◌+◌, List, get_or, set, sym, ◌∙◌, subst}
 use Rattle.std.proofs.lemmas.Bool.{cond-true, cond-false}
 use Rattle.frames.specs.declared.states.Frame.{Frame}
 use Rattle.frames.specs.Held.{blank, emptied_frame}
@@ -20,6 +19,3 @@ loop-frame-preserved c =
       | then-not-stays w ↦ stepped c w.apply.new.self (w.apply.ensures ∙ sym (cond-false _ _ _ (sym w.if-not-stays.ensures))) w.frames-is
       | else-not-stays w ↦ stepped c _ (sym (cond-true _ _ _ (sym w.if-not-stays.ensures))) w.frames-is
     ]
-
-pub returns : goal.returns
-returns c = search (rules, take_all, drop_all)

@@ -1,10 +1,8 @@
-use Rattle.std.proofs.Common.{◌≡◌, ℕ, ◌<◌, true, length, get_or, set, sym, ap, ◌∙◌, subst, arith}
+use Rattle.std.proofs.Common.{◌≡◌, ℕ, true, length, get_or, set, sym, ap, ◌∙◌, subst}
 use Rattle.std.proofs.lemmas.List.{length-set}
-use Rattle.std.proofs.lemmas.Bool.{and_parts}
-use Rattle.frames.specs.Clock.{filled, next_place}
+use Rattle.frames.specs.Clock.{next_place}
 use Rattle.frames.specs.Held.{blank}
-use Rattle.frames.specs.States.{held}
-use Rattle.frames.proofs.Swept.{Turning, fewer, passed, stopped, turned_on, turning, unmarked}
+use Rattle.frames.proofs.Swept.{Turning, passed, stopped, turned_on, turning, unmarked}
 use Rattle.frames.proofs.hand.sweep_from.Goals as goal
 
 pub turn-init : goal.turn-init
@@ -12,12 +10,6 @@ turn-init c = (length c.args.frames.now, turning c.args.frames.now c.args.hand c
 
 was_passed : (c : goal.After-next_place-place) → passed (get_or c.turn.frames c.turn.place blank) ≡ true
 was_passed c = sym c.if-not-is_passed.ensures
-
-pub turn-smaller : goal.turn-smaller
-turn-smaller c =
-    let t = c.turn.invariant.1 in
-    let l : c.turn.place < length c.turn.frames = omega (arith, t.len, t.within) in
-    omega (arith, fewer c.turn.frames c.turn.place blank l (and_parts (filled (held (get_or c.turn.frames c.turn.place blank))) _ (was_passed c)).1)
 
 pub turn-preserved : goal.turn-preserved
 turn-preserved c =

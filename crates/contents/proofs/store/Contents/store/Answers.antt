@@ -1,33 +1,24 @@
-use Rattle.std.proofs.Common.{◌≡◌, ℕ, ◌<◌, ◌≤◌, length, get_or, vec_items, refl, arith}
-use Rattle.contents.specs.View.{users_of}
-use Rattle.contents.proofs.Columns.{length_users}
+use Rattle.std.proofs.Common.{◌<◌, vec_items, refl, arith}
+use Rattle.page.specs.Memory.{area_of, pages_in}
+use Rattle.contents.specs.View.{users_of, contents_area}
+use Rattle.contents.proofs.Columns.{fingerprints_set, users_set}
 use Rattle.contents.proofs.Facts.{size_is, size_limit, size_paged, whole_of}
 use Rattle.contents.proofs.InUse.{in_use_le, in_use_all, in_use_lt}
-use Rattle.contents.proofs.Keeping.{whole_stored}
+use Rattle.contents.proofs.Keeping.{laid_in, taken_in, whole_stored}
 use Rattle.contents.proofs.store.Contents.store.Goals as goal
 
-pub returns-then-self-size : goal.returns-then-self-size
-returns-then-self-size c =
-    let self = c.args.self.now in
-    let w = (whole_of self).counted in
-    (omega (arith, size_is self), refl, refl)
+pub returns-in_err-content : goal.returns-in_err-content
+returns-in_err-content c = let self = c.args.self.now in rw c.from_residual.ensures (in_use_all (users_of self) c.in_err-content.ensures, refl, refl)
 
-pub first_free-requires : goal.first_free-requires
-first_free-requires c =
+pub unwrap-requires : goal.unwrap-requires
+unwrap-requires c =
     let self = c.args.self.now in
-    rw c.deref.ensures.value (omega (arith, length_users (vec_items self.records), size_limit self))
+    let page = c.args.page.now in
+    let exists : c.in_ok-content.content < pages_in (contents_area self) = omega (arith, c.in_ok-content.ensures.0, size_paged self) in
+    rw (taken_in (contents_area self) c.in_ok-content.content page.bytes.now exists page.whole c.write.result c.write.ensures.answer) refl
 
-pub returns-in_default : goal.returns-in_default
-returns-in_default c =
-    let self = c.args.self.now in
-    let all : (k : ℕ) → k < length (users_of self) → 1 ≤ get_or (users_of self) k 0 = rw c.deref.ensures.value at c.in_default.ensures in
-    (in_use_all (users_of self) all, refl, refl)
-
-pub write_page-requires : goal.write_page-requires
-write_page-requires c =
-    let self = c.args.self.now in
-    let h : (c.in-Some.content < length (users_of self)) × (get_or (users_of self) c.in-Some.content 0 ≡ 0) = rw c.deref.ensures.value at c.in-Some.ensures in
-    record { exists = omega (arith, size_paged self); whole = c.requires.whole }
+pub index_mut-requires : goal.index_mut-requires
+index_mut-requires c = omega (arith, c.in_ok-content.ensures.0, size_is c.args.self.now)
 
 pub overflow_add-self : goal.overflow_add-self
 overflow_add-self c =
@@ -39,28 +30,28 @@ overflow_add-self c =
 pub invariant_of-self : goal.invariant_of-self
 invariant_of-self c =
     let self = c.args.self.now in
-    let i = c.in-Some.content in
     let page = c.args.page.now in
-    let h : (i < length (users_of self)) × (get_or (users_of self) i 0 ≡ 0) = rw c.deref.ensures.value at c.in-Some.ensures in
-    let e = c.set_first_user.ensures in
-    record { whole = ∣ rw (e.users, e.fingerprints, c.write_page.ensures, c.requires.print) (whole_stored (whole_of self) page i h.0 h.1 c.requires.absent c.requires.whole) ∣₁ }
+    let i = c.in_ok-content.content in
+    let h = c.in_ok-content.ensures in
+    let exists : i < pages_in (contents_area self) = omega (arith, h.0, size_paged self) in
+    let laid = laid_in (contents_area self) i page.bytes.now exists page.whole c.write.result c.write.ensures.answer (area_of c.write.new.self) c.write.ensures.area in
+    record { whole = ∣ rw (users_set, fingerprints_set, laid, page.printed) (whole_stored (whole_of self) page.bytes.now i h.0 h.1 c.requires.absent page.whole) ∣₁ }
+
+pub overflow_cast-result : goal.overflow_cast-result
+overflow_cast-result c = omega (arith, c.in_ok-content.ensures.0, size_limit c.args.self.now)
 
 pub returns : goal.returns
 returns c =
     let self = c.args.self.now in
-    let i = c.in-Some.content in
-    let h : (i < length (users_of self)) × (get_or (users_of self) i 0 ≡ 0) = rw c.deref.ensures.value at c.in-Some.ensures in
+    let page = c.args.page.now in
+    let i = c.in_ok-content.content in
+    let h = c.in_ok-content.ensures in
+    let exists : i < pages_in (contents_area self) = omega (arith, h.0, size_paged self) in
     record {
       absent = c.requires.absent;
       within = h.0;
       free = h.1;
       room = in_use_lt (users_of self) i h.0 h.1;
-      users_now = c.set_first_user.ensures.users;
-      area_now = c.write_page.ensures;
+      users_now = users_set (vec_items self.records) i _;
+      area_now = laid_in (contents_area self) i page.bytes.now exists page.whole c.write.result c.write.ensures.answer _ c.write.ensures.area;
     }
-
-pub set_first_user-requires : goal.set_first_user-requires
-set_first_user-requires c =
-    let self = c.args.self.now in
-    let h : (c.in-Some.content < length (users_of self)) × (get_or (users_of self) c.in-Some.content 0 ≡ 0) = rw c.deref.ensures.value at c.in-Some.ensures in
-    omega (arith, size_is self)

@@ -12,6 +12,6 @@ returns c =
     let old = get_or (frames_of before) c.args.frame blank in
     record {
       clock = clock_set before after c.args.frame (after_event old Emptying) c.apply.ensures.frames c.apply.ensures.hand None false
-          (held_emptied old.state old.page) refl;
+          (held_emptied old.state) refl;
       dirty = dirties_set before after c.args.frame (after_event old Emptying) c.apply.ensures.frames false (clean_emptied old.state);
     }

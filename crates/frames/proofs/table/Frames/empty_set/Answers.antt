@@ -5,16 +5,11 @@ use Rattle.frames.specs.declared.states.Frame.{Frame}
 use Rattle.frames.specs.declared.table.Frames.{Frames}
 use Rattle.frames.specs.Held.{emptied_frame}
 use Rattle.frames.proofs.Emptied.{clock_emptied, dirties_emptied}
-use Rattle.frames.proofs.Tables.{lent, lent_is, lent_long, part_length}
+use Rattle.frames.proofs.Tables.{lent, lent_is, lent_long}
 use Rattle.frames.proofs.table.Frames.empty_set.Goals as goal
 
 long : (fs : Frames) (pages : PageSet) (ys : List Frame) → ys ≡ map (emptied_frame pages) (lent fs) → length ys ≡ fs.count
 long fs pages ys e = lent_long fs ys (ap length e ∙ length-map (lent fs) (emptied_frame pages))
-
-pub invariant_of-self : goal.invariant_of-self
-invariant_of-self c =
-    let fs = c.args.self.now in
-    record { full = part_length fs c.empty_pages.new.frames (long fs c.args.pages _ c.empty_pages.ensures); few = fs.few; within = fs.within }
 
 pub returns : goal.returns
 returns c =

@@ -1,10 +1,9 @@
-use Rattle.std.proofs.Common.{◌<◌, length, Some, None, sym, refl, ap, ◌∙◌, arith}
+use Rattle.std.proofs.Common.{length, Some, None, sym, refl, ap, ◌∙◌}
 use Rattle.std.proofs.lemmas.List.{take_at}
 use Rattle.std.proofs.lemmas.Bool.{cond-true, cond-false, eq-eqb, ne_eqb}
 use Rattle.frames.specs.Clock.{taken}
 use Rattle.frames.specs.Held.{clock}
-use Rattle.frames.proofs.Tables.{count_of, lent_is, part_length}
-use Rattle.frames.proofs.Turned.{at_taken, clock_turned, dirties_turned, frames_turn, next_within, no_turn, swept_long}
+use Rattle.frames.proofs.Turned.{at_taken, clock_turned, dirties_turned, frames_turn, no_turn, swept_long}
 use Rattle.frames.proofs.Views.{frame_count}
 use Rattle.frames.proofs.table.Frames.take_frame.Goals as goal
 
@@ -16,17 +15,6 @@ returns-then-count-eq0 c =
       clock = no_turn fs c.if-count-eq0.true;
       dirty = refl;
       turn = tt;
-    }
-
-pub invariant_of-self : goal.invariant_of-self
-invariant_of-self c =
-    let fs = c.args.self.now in
-    let r = c.sweep_from-frame.result in
-    let w : r < fs.count = omega (arith, c.sweep_from-frame.ensures.within, ap length (lent_is fs), count_of fs) in
-    record {
-      full = part_length fs c.sweep_from-frame.new.frames (swept_long fs _ c.sweep_from-frame.ensures.pages);
-      few = fs.few;
-      within = omega (arith, c.next_place-self.ensures, next_within fs.count r w);
     }
 
 pub returns : goal.returns

@@ -12,7 +12,7 @@ returns c =
     let old = get_or (frames_of before) c.args.frame blank in
     record {
       clock = clock_set before after c.args.frame (after_event old WriteBack) c.apply.ensures.frames c.apply.ensures.hand (held old) old.marked
-          (held_written_back old.state old.page) refl
+          (held_written_back old.state) refl
           ∙ clock_same before c.args.frame;
       dirty = dirties_set before after c.args.frame (after_event old WriteBack) c.apply.ensures.frames false (clean_written_back old.state);
     }
