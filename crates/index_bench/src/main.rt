@@ -7,6 +7,7 @@ use anyhow::anyhow;
 use index::{Index, IndexMemory};
 use std::alloc::Global;
 use std::env;
+use std::str::FromStr;
 
 #[derive(Clone, Copy)]
 enum Phase {
@@ -17,14 +18,18 @@ enum Phase {
     Remove,
 }
 
-fn phase_named(name: &str) -> Option<Phase> {
-    match name {
-        "make" => Some(Phase::Make),
-        "file" => Some(Phase::File),
-        "find" => Some(Phase::Find),
-        "next" => Some(Phase::Next),
-        "remove" => Some(Phase::Remove),
-        _ => None,
+impl FromStr for Phase {
+    type Err = anyhow::Error;
+
+    fn from_str(name: &str) -> anyhow::Result<Phase> {
+        match name {
+            "make" => Ok(Phase::Make),
+            "file" => Ok(Phase::File),
+            "find" => Ok(Phase::Find),
+            "next" => Ok(Phase::Next),
+            "remove" => Ok(Phase::Remove),
+            _ => Err(anyhow!("the phases are make, file, find, next and remove")),
+        }
     }
 }
 
@@ -34,68 +39,50 @@ fn key(i: u32) -> u32 {
     (mixed ^ (mixed >> 7)).wrapping_mul(40503)
 }
 
-fn file_all(index: &mut Index<u64>, keys: u32) {
+// For how many of the keys the call answers true.
+fn hits<F: FnMut(u32) -> bool>(keys: u32, mut call: F) -> u32
+    requires { F.IsAlwaysCallable call }
+{
+    let mut hits = 0u32;
     for i in 0..keys {
-        let _ = index.file(key(i), i as u64);
-    }
-}
-
-fn remove_all(index: &mut Index<u64>, keys: u32) -> u32 {
-    let mut removed = 0u32;
-    for i in 0..keys {
-        if index.remove(key(i)).is_some() {
-            removed = removed.wrapping_add(1);
+        if call(key(i)) {
+            hits = hits.saturating_add(1);
         }
     }
-    removed
+    hits
 }
 
-fn find_all(index: &Index<u64>, keys: u32) -> u32 {
-    let mut found = 0u32;
+// An index over the memory of this one, in which every key is filed.
+fn filled(index: Index<u64>, keys: u32) -> Index<u64> {
+    let mut index = Index::new(index.into_memory());
     for i in 0..keys {
-        if index.find(key(i)).is_some() {
-            found = found.wrapping_add(1);
-        }
+        let _ = index.file(key(i), u64::from(i));
     }
-    found
-}
-
-fn next_all(index: &Index<u64>, keys: u32) -> u32 {
-    let mut found = 0u32;
-    for i in 0..keys {
-        if index.first_at_or_after(key(i).wrapping_add(1)).is_some() {
-            found = found.wrapping_add(1);
-        }
-    }
-    found
-}
-
-fn anew(index: Index<u64>) -> Index<u64> {
-    Index::new(index.into_memory())
+    index
 }
 
 // One round, and how many of its calls found something.
 fn round(index: Index<u64>, phase: Phase, keys: u32) -> (Index<u64>, u32) {
     match phase {
-        Phase::Make => (anew(index), 0),
-        Phase::File => {
-            let mut index = anew(index);
-            file_all(&mut index, keys);
-            (index, 0)
-        }
+        Phase::Make => (Index::new(index.into_memory()), 0),
+        Phase::File => (filled(index, keys), 0),
         Phase::Find => {
-            let hits = find_all(&index, keys);
-            (index, hits)
+            let found = hits(keys, |key| index.find(key).is_some());
+            (index, found)
         }
         Phase::Next => {
-            let hits = next_all(&index, keys);
-            (index, hits)
+            let found = hits(keys, |key| {
+                // the key found is looked at, so that no step of the search is left out in the timed program
+                index
+                    .first_at_or_after(key.wrapping_add(1))
+                    .is_some_and(|next| next != key)
+            });
+            (index, found)
         }
         Phase::Remove => {
-            let mut index = anew(index);
-            file_all(&mut index, keys);
-            let hits = remove_all(&mut index, keys);
-            (index, hits)
+            let mut index = filled(index, keys);
+            let removed = hits(keys, |key| index.remove(key).is_some());
+            (index, removed)
         }
     }
 }
@@ -103,17 +90,15 @@ fn round(index: Index<u64>, phase: Phase, keys: u32) -> (Index<u64>, u32) {
 fn run(rt: &HostRuntime, heap: Global) -> anyhow::Result<()> {
     let mut args = env::args(rt)?;
     let _ = args.next();
-    let (Some(keys), Some(name), Some(rounds)) = (args.next(), args.next(), args.next()) else {
+    let (Some(keys), Some(phase), Some(rounds)) = (args.next(), args.next(), args.next()) else {
         return Err(anyhow!("usage: index_bench KEYS PHASE ROUNDS"));
     };
     let keys = keys.as_str().parse::<u32>()?;
     let rounds = rounds.as_str().parse::<u32>()?;
-    let Some(phase) = phase_named(name.as_str()) else {
-        return Err(anyhow!("the phases are make, file, find, next and remove"));
-    };
-    let places = keys as usize;
-    let mut index = Index::new(IndexMemory::new(heap, places * 7 + 1, places, 0u64)?);
-    file_all(&mut index, keys);
+    let phase = phase.as_str().parse::<Phase>()?;
+    let slots = keys as usize;
+    let memory = IndexMemory::new(heap, slots * 7 + 1, slots, 0u64)?;
+    let mut index = filled(Index::new(memory), keys);
     let mut hits = 0u32;
     for _ in 0..rounds {
         let (next, found) = round(index, phase, keys);
