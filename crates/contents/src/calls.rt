@@ -5,6 +5,7 @@ ghost use Rattle.contents.specs.Calls.{Found};
 ghost use Rattle.contents.specs.Records.{in_use_in};
 ghost use Rattle.contents.specs.View.{users_of, contents_area};
 
+use super::memory::ContentsMemory;
 use super::pages::FingerprintedPage;
 use super::records::ContentRecord;
 use super::store::Contents;
@@ -15,10 +16,11 @@ pub const LIMIT: usize = 4096;
 
 impl Contents {
     /// Contents that are all free, over the memory given, whatever it holds. Records past the last content are let go.
-    pub fn new(bytes: Vec<u8>, mut records: Vec<ContentRecord>) -> Contents
-        ensures users { users_of result ≡ replicate (min 4096 (min (pages_in bytes.items) (length records.items))) 0 }
-        ensures area { contents_area result ≡ bytes.items }
+    pub fn new(memory: ContentsMemory) -> Contents
+        ensures users { users_of result ≡ replicate (min 4096 (min (pages_in memory.bytes.items) (length memory.records.items))) 0 }
+        ensures area { contents_area result ≡ memory.bytes.items }
     {
+        let ContentsMemory { bytes, mut records } = memory;
         let memory = PageMemory::new(bytes);
         records.truncate(memory.pages().min(LIMIT));
         records.fill(ContentRecord::blank());
@@ -30,16 +32,19 @@ impl Contents {
     }
 
     /// Gives the memory back.
-    pub fn into_parts(self) -> (Vec<u8>, Vec<ContentRecord>)
-        ensures bytes { result.0 ≡ self.memory.bytes }
-        ensures records { result.1 ≡ self.records }
+    pub fn into_memory(self) -> ContentsMemory
+        ensures bytes { result.bytes ≡ self.memory.bytes }
+        ensures records { result.records ≡ self.records }
     {
         let Contents {
             records,
             memory,
-            in_use: _,
+            ..
         } = self;
-        (memory.into_bytes(), records)
+        ContentsMemory {
+            bytes: memory.into_bytes(),
+            records,
+        }
     }
 
     /// How many contents there can be.

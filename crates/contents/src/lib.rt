@@ -2,6 +2,7 @@
 #![tactic(auto)]
 
 mod calls;
+mod memory;
 mod pages;
 mod records;
 mod search;
@@ -9,5 +10,6 @@ mod sharing;
 mod store;
 
 pub use calls::LIMIT;
+pub use memory::ContentsMemory;
 pub use records::ContentRecord;
 pub use store::Contents;

@@ -72,6 +72,7 @@ impl Contents {
 #[cfg(test)]
 mod tests {
     use super::*;
+    use crate::memory::ContentsMemory;
     use crate::pages::fingerprint_of;
     use page::PAGE_BYTES;
     use std::test::Fail;
@@ -80,7 +81,7 @@ mod tests {
     fn equal_pages_are_stored_once(rt: HostRuntime) -> Result<(), Fail> {
         let bytes = [9; 2 * PAGE_BYTES + 3].to_vec(rt.alloc())?;
         let records = [ContentRecord::blank(); 5].to_vec(rt.alloc())?;
-        let mut contents = Contents::new(bytes, records);
+        let mut contents = Contents::new(ContentsMemory { bytes, records });
         let ones = [1; PAGE_BYTES];
         let twos = [2; PAGE_BYTES];
         let mut out = [0; PAGE_BYTES];
@@ -102,7 +103,7 @@ mod tests {
         assert!(rt; contents.read(0, &mut out));
         assert_eq!(rt; out[255], 3);
         assert!(rt; !contents.read(2, &mut out));
-        let (bytes, _records) = contents.into_parts();
+        let ContentsMemory { bytes, .. } = contents.into_memory();
         assert_eq!(rt; bytes.as_slice().iter().copied().last(), Some(9));
         Ok(())
     }
@@ -112,7 +113,7 @@ mod tests {
     fn a_fingerprint_decides_nothing(rt: HostRuntime) -> Result<(), Fail> {
         let bytes = [0; 2 * PAGE_BYTES].to_vec(rt.alloc())?;
         let records = [ContentRecord::blank(); 2].to_vec(rt.alloc())?;
-        let mut contents = Contents::new(bytes, records);
+        let mut contents = Contents::new(ContentsMemory { bytes, records });
         let mut one = [0; PAGE_BYTES];
         let mut other = [0; PAGE_BYTES];
         one[0] = 1;

@@ -13,7 +13,7 @@ use Rattle.dedup.specs.declared.pages.SharedPages.{SharedPages}
 
 pub record NewDedup (label : ℕ) (bytes : List ℕ) (records slots nodes : ℕ) (b : Store SharedPages) : Type 0 where
   pub new : New (list_rules dedup_lack) (store_state shared_fixed shared_entries b)
-  pub labelled : b.label ≡ label
+  pub labelled : b.account.label ≡ label
   -- how many pages it can hold, how many different ones, and its page bytes, which are as they were given
   pub size : size_of b.pages.held ≡ most_pages slots nodes
   pub different_size : length (users_of b.pages.contents) ≡ most_different (length bytes) records

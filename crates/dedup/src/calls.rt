@@ -16,27 +16,25 @@ ghost use Rattle.dedup.specs.Counting.{used_within};
 ghost use Rattle.dedup.specs.Kept.{users_of_taken};
 
 use crate::pages::SharedPages;
-use contents::{ContentRecord, Contents};
+use contents::{Contents, ContentsMemory};
 use held::{Held, MOST};
-use index::{Node, Slot};
+use index::IndexMemory;
 use page::{Count, Key, PAGE_BYTES};
 use std::alloc::{AllocError, Global};
 use store::HeldPages;
 
 impl SharedPages {
-    /// No pages yet, in the page bytes given, as they are, with the content records and the index's nodes and slots given. Only
+    /// No pages yet, in the memory of contents given, whose page bytes stay as they are, with an index over the memory given. Only
     /// want of memory for the order of the pages refuses it.
     pub fn new(
         heap: Global,
-        bytes: Vec<u8>,
-        records: Vec<ContentRecord>,
-        nodes: Vec<Node>,
-        slots: Vec<Slot<u16>>,
+        contents: ContentsMemory,
+        index: IndexMemory<u16>,
     ) -> Result<SharedPages, AllocError>
-        ensures { IfOk result (λ b. (shared_entries b ≡ []) × (size_of b.held ≡ most_pages (length slots.items) (length nodes.items)) × (length (users_of b.contents) ≡ most_different (length bytes.items) (length records.items)) × (contents_area b.contents ≡ bytes.items)) }
+        ensures { IfOk result (λ b. (shared_entries b ≡ []) × (size_of b.held ≡ most_pages (length index.slots.items) (length index.nodes.items)) × (length (users_of b.contents) ≡ most_different (length contents.bytes.items) (length contents.records.items)) × (contents_area b.contents ≡ contents.bytes.items)) }
     {
-        let contents = Contents::new(bytes, records);
-        let held = Held::new(heap, MOST, nodes, slots)?;
+        let contents = Contents::new(contents);
+        let held = Held::new(heap, MOST, index)?;
         let content_at = vec![in heap; 0u16; held.size()]?;
         Ok(SharedPages {
             held,
@@ -45,21 +43,15 @@ impl SharedPages {
         })
     }
 
-    /// Gives the page bytes, the content records and the index's nodes and slots back.
-    pub fn into_parts(self) -> (Vec<u8>, Vec<ContentRecord>, Vec<Node>, Vec<Slot<u16>>)
-        ensures bytes { result.0 ≡ self.contents.bytes }
-        ensures records { result.1 ≡ self.contents.records }
-        ensures nodes { result.2 ≡ self.held.index.tree.nodes }
-        ensures slots { result.3 ≡ self.held.index.tree.slots }
+    /// Gives the memory of the contents and of the index back.
+    pub fn into_parts(self) -> (ContentsMemory, IndexMemory<u16>)
+        ensures bytes { result.0.bytes ≡ self.contents.memory.bytes }
+        ensures records { result.0.records ≡ self.contents.records }
+        ensures nodes { result.1.nodes ≡ self.held.index.tree.nodes }
+        ensures slots { result.1.slots ≡ self.held.index.tree.slots }
     {
-        let SharedPages {
-            held,
-            contents,
-            content_at: _,
-        } = self;
-        let (bytes, records) = contents.into_parts();
-        let (nodes, slots) = held.into_parts();
-        (bytes, records, nodes, slots)
+        let SharedPages { held, contents, .. } = self;
+        (contents.into_memory(), held.into_memory())
     }
 
     /// How many pages are held, and how many different ones.
@@ -107,21 +99,21 @@ impl HeldPages for SharedPages {
             let _ = self.held.remove(key);
             return false;
         };
-        self.content_at[place as usize] = content;
+        self.content_at[usize::from(place)] = content;
         true
     }
 
     fn remove(&mut self, key: Key) {
         if let Some(place) = self.held.remove(key) {
-            self.contents.release(self.content_at[place as usize]);
+            self.contents.release(self.content_at[usize::from(place)]);
         }
     }
 
     fn read(&self, key: Key, out: &mut [u8]) -> bool {
-        match self.held.find(key) {
-            Some(place) => self.contents.read(self.content_at[place as usize], out),
-            None => false,
-        }
+        let Some(place) = self.held.find(key) else {
+            return false;
+        };
+        self.contents.read(self.content_at[usize::from(place)], out)
     }
 
     fn take(&mut self, key: Key, out: &mut [u8]) -> bool {
@@ -131,7 +123,7 @@ impl HeldPages for SharedPages {
         let Some(place) = self.held.remove(key) else {
             return false;
         };
-        let content = self.content_at[place as usize];
+        let content = self.content_at[usize::from(place)];
         let found = self.contents.read(content, out);
         self.contents.release(content);
         found

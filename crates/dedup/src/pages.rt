@@ -12,7 +12,7 @@ use held::Held;
 pub struct SharedPages {
     pub(crate) held: Held,
     pub(crate) contents: Contents,
-    // the content of the key that is held at a place
+    // the content of the key that is held at a place. Not in the table of `held`, which the local store uses too, without contents
     pub(crate) content_at: Vec<u16>,
     // a content has as many users as held keys have it, so it is free exactly when none has
     ghost counted: { (i : ℕ) → slice_index (users_of contents) i ≡ uses i (contents_by (λ p. slice_index_or content_at.items p 0) (holdings held)) },

@@ -1,10 +1,10 @@
-use Rattle.std.proofs.Common.{◌≡◌, ℕ, ◌<◌, true, ◌⊎◌, List, length, get_or, drop, set, is_some, vec_items, sym, refl, ap, ◌∙◌, inl, inr, arith, eq-eqb}
+use Rattle.std.proofs.Common.{◌≡◌, ℕ, ◌<◌, true, ◌⊎◌, List, length, get_or, drop, set, is_some, Some, subst, vec_items, sym, refl, ap, ◌∙◌, inl, inr, arith, eq-eqb}
 use Rattle.std.proofs.lemmas.List.{length-set}
 use Rattle.page.specs.Memory.{page_at, start_of}
 use Rattle.contents.specs.View.{users_of, contents_area}
 use Rattle.contents.proofs.Facts.{pages_apart, size_paged}
 use Rattle.held.specs.Entries.{entries_by}
-use Rattle.held.specs.Holdings.{Holding, place_of, without_key}
+use Rattle.held.specs.Holdings.{Holding, Pushed, place_of, without_key}
 use Rattle.held.specs.View.{holdings, size_of}
 use Rattle.held.proofs.Entries.{not_joined, may_join}
 use Rattle.held.proofs.Facts.{count_fits, size_small}
@@ -82,11 +82,12 @@ invariant_of-self-2 c =
     let b = c.args.self.now in
     let noted = vec_items b.content_at in
     let e = c.in-Some.ensures in
+    let cases = subst (λ q. Pushed (size_of b.held) c.args.key.number (holdings b.held) (Some q) (holdings c.push.new.self)) (sym c.from.ensures) e.cases in
     let a = c.in-Some-acquire.ensures in
     let counted =
     joined_counted (users_of b.contents) (contents_area b.contents) noted (holdings b.held) b.counted (pages_apart b.contents)
-    c.args.key.number c.in-Some.place c.in-Some-acquire.content c.args.page.now _ _ e.cases.3 (omega (arith, e.cases.2, b.long)) a.outcome.1 in record {
-      counted = λ i. counted i ∙ ap (λ (R : List Holding). uses i (contents_by (λ q. get_or (set noted c.in-Some.place c.in-Some-acquire.content) q 0) R)) (sym e.cases.4);
+    c.args.key.number c.from.result c.in-Some-acquire.content c.args.page.now _ _ cases.3 (omega (arith, cases.2, b.long)) a.outcome.1 in record {
+      counted = λ i. counted i ∙ ap (λ (R : List Holding). uses i (contents_by (λ q. get_or (set noted c.from.result c.in-Some-acquire.content) q 0) R)) (sym cases.4);
       long = length-set noted _ _ ∙ (b.long ∙ sym e.size);
     }
 
@@ -99,22 +100,23 @@ returns c =
     let area = contents_area b.contents in
     let H = holdings b.held in
     let k = c.args.key.number in
-    let p = c.in-Some.place in
+    let p = c.from.result in
     let i = c.in-Some-acquire.content in
     let page = c.args.page.now in
     let whole = eq-eqb _ _ c.if-page-ne-PAGE_BYTES.false in
     let e = c.in-Some.ensures in
+    let cases = subst (λ q. Pushed (size_of b.held) c.args.key.number (holdings b.held) (Some q) (holdings c.push.new.self)) (sym c.from.ensures) e.cases in
     let a = c.in-Some-acquire.ensures in
-    let within : p < length noted = omega (arith, e.cases.2, b.long) in
+    let within : p < length noted = omega (arith, cases.2, b.long) in
     let lack = dedup_lack (shared_fixed b) (shared_entries b) page in
     record {
       answer =
-          may_join (λ q. page_at area (g q)) k H page lack whole e.cases.0
-          (joined_place users area noted H b.counted (pages_apart b.contents) k p i page _ _ e.cases.3 within a.outcome.1 (shared_fixed b) (size_of b.held) refl refl e.cases.1);
+          may_join (λ q. page_at area (g q)) k H page lack whole cases.0
+          (joined_place users area noted H b.counted (pages_apart b.contents) k p i page _ _ cases.3 within a.outcome.1 (shared_fixed b) (size_of b.held) refl refl cases.1);
       entries =
-          ap (entries_by (λ q. page_at (contents_area c.acquire.new.self) (get_or (set noted p i) q 0))) e.cases.4
-          ∙ joined_entries users area noted H b.counted (pages_apart b.contents) k p i page _ _ e.cases.3 within a.outcome.1 (a.holds i refl) a.others;
+          ap (entries_by (λ q. page_at (contents_area c.acquire.new.self) (get_or (set noted p i) q 0))) cases.4
+          ∙ joined_entries users area noted H b.counted (pages_apart b.contents) k p i page _ _ cases.3 within a.outcome.1 (a.holds i refl) a.others;
       fixed =
           fixed_same (size_of b.held) (length users) _ _ area _ e.size a.same_size
-          (joined_behind users area noted H b.counted (pages_apart b.contents) k p i page _ _ e.cases.3 within a.outcome.1 c.if-page-ne-PAGE_BYTES.false (size_paged b.contents));
+          (joined_behind users area noted H b.counted (pages_apart b.contents) k p i page _ _ cases.3 within a.outcome.1 c.if-page-ne-PAGE_BYTES.false (size_paged b.contents));
     }

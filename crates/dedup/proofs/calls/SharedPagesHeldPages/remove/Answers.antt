@@ -17,7 +17,7 @@ pub index-requires : goal.index-requires
 index-requires c =
     let b = c.args.self.now in
     let below = place_below b.held c.args.key.number c.in-Some.place (sym c.in-Some.ensures.value) in
-    omega (arith, below, b.long, b.content_at.ok.0)
+    omega (arith, below, b.long, b.content_at.ok.0, c.from.ensures)
 
 pub invariant_of-self : goal.invariant_of-self
 invariant_of-self c =
@@ -27,7 +27,9 @@ invariant_of-self c =
     let p = c.in-Some.place in
     let k = c.args.key.number in
     let e = c.in-Some.ensures in
-    let content = get_or_read_under noted p (length noted) c.index.result.now 0 c.index.ensures (omega (arith, place_below b.held k p (sym e.value), b.long)) refl in
+    let content =
+    get_or_read_under noted c.from.result (length noted) c.index.result.now 0 c.index.ensures (omega (arith, c.from.ensures, place_below b.held k p (sym e.value), b.long)) refl
+    ∙ ap (λ (q : ℕ). get_or noted q 0) c.from.ensures in
     let less = left_counted users (contents_area b.contents) noted (holdings b.held) b.counted (pages_apart b.contents) k p (keys_apart b.held) (sym e.value) in record {
       counted = λ i.
           ap (λ (us : List ℕ). get_or us i 0) (c.release.ensures.users ∙ ap (λ (j : ℕ). set users j (get_or users j 0 - 1)) content)

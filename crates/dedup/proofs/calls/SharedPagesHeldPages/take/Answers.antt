@@ -46,7 +46,7 @@ pub index-content-requires : goal.index-content-requires
 index-content-requires c =
     let b = c.args.self.now in
     let below = place_below b.held c.args.key.number c.in-Some.place (sym c.in-Some.ensures.value) in
-    omega (arith, below, b.long, b.content_at.ok.0)
+    omega (arith, below, b.long, b.content_at.ok.0, c.from.ensures)
 
 pub invariant_of-self-2 : goal.invariant_of-self-2
 invariant_of-self-2 c =
@@ -56,7 +56,9 @@ invariant_of-self-2 c =
     let p = c.in-Some.place in
     let k = c.args.key.number in
     let e = c.in-Some.ensures in
-    let content = get_or_read_under noted p (length noted) c.index-content.result.now 0 c.index-content.ensures (omega (arith, place_below b.held k p (sym e.value), b.long)) refl in
+    let content =
+    get_or_read_under noted c.from.result (length noted) c.index-content.result.now 0 c.index-content.ensures (omega (arith, c.from.ensures, place_below b.held k p (sym e.value), b.long)) refl
+    ∙ ap (λ (q : ℕ). get_or noted q 0) c.from.ensures in
     let less = left_counted users (contents_area b.contents) noted (holdings b.held) b.counted (pages_apart b.contents) k p (keys_apart b.held) (sym e.value) in record {
       counted = λ i.
           ap (λ (us : List ℕ). get_or us i 0) (c.release.ensures.users ∙ ap (λ (j : ℕ). set users j (get_or users j 0 - 1)) content)
@@ -79,7 +81,9 @@ returns c =
     let page = eq-eqb _ _ c.if-out-ne-PAGE_BYTES.false in
     let e = c.in-Some.ensures in
     let u = c.release.ensures in
-    let content = get_or_read_under noted p (length noted) c.index-content.result.now 0 c.index-content.ensures (omega (arith, place_below b.held k p (sym e.value), b.long)) refl in
+    let content =
+    get_or_read_under noted c.from.result (length noted) c.index-content.result.now 0 c.index-content.ensures (omega (arith, c.from.ensures, place_below b.held k p (sym e.value), b.long)) refl
+    ∙ ap (λ (q : ℕ). get_or noted q 0) c.from.ensures in
     let there = read_there users area g H b.counted (pages_apart b.contents) k p out (sym e.value) in
     let told = c.read-found.ensures.answer ∙ ap (λ (i : ℕ). ltb i (length users) && eqb (length out) 256) content in
     record {
