@@ -1,4 +1,4 @@
-//! Making a tree, and taking it apart.
+//! Making a tree.
 ghost use Rattle.std.specs.Prelude.{◌≡◌, ℕ, ◌+◌, ◌-◌, ◌*◌, ◌/◌, ◌%◌, ◌^◌, ◌<◌, ◌≤◌, min, [], length, vec_len, ◌≢◌};
 ghost use Rattle.index.specs.Nodes.{path_in, child_in, free_in};
 ghost use Rattle.index.specs.Slots.{heads, mark_in, slot_free_in};
@@ -12,37 +12,6 @@ use super::tree::Tree;
 // The most nodes, and the most slots, that a tree uses: their numbers together fit 32 bits.
 pub const LIMIT: usize = 0x7fff_ffff;
 
-fn clear_node(nodes: &mut Vec<Node>, i: usize, free: u32)
-    requires { i < vec_len nodes.old }
-    ensures path { path_in nodes.new.items i ≡ 0 }
-    ensures children { (c : ℕ) → c < 16 → child_in nodes.new.items i c ≡ 0 }
-    ensures free { free_in nodes.new.items i ≡ free }
-    ensures paths { (j : ℕ) → (j ≢ i) → path_in nodes.new.items j ≡ path_in nodes.old.items j }
-    ensures rest { (j c : ℕ) → (j ≢ i) → child_in nodes.new.items j c ≡ child_in nodes.old.items j c }
-    ensures frees { (j : ℕ) → (j ≢ i) → free_in nodes.new.items j ≡ free_in nodes.old.items j }
-    ensures len { length nodes.new.items ≡ length nodes.old.items }
-{
-    nodes[i] = Node {
-        free,
-        ..Node::BLANK
-    };
-}
-
-fn clear_slot<R: Copy>(slots: &mut Vec<Slot<R>>, i: usize, free: u32)
-    requires { i < length (heads slots.old.items) }
-    ensures mark { mark_in (heads slots.new.items) i ≡ 0 }
-    ensures free { slot_free_in (heads slots.new.items) i ≡ free }
-    ensures marks { (j : ℕ) → (j ≢ i) → mark_in (heads slots.new.items) j ≡ mark_in (heads slots.old.items) j }
-    ensures frees { (j : ℕ) → (j ≢ i) → slot_free_in (heads slots.new.items) j ≡ slot_free_in (heads slots.old.items) j }
-    ensures len { length (heads slots.new.items) ≡ length (heads slots.old.items) }
-{
-    slots[i].head = Head {
-        key: None,
-        parent: 0,
-        free,
-    };
-}
-
 // Frees every node: entry i of the stack of free nodes is node i + 1, and the last entry is none.
 fn clear_nodes(nodes: &mut Vec<Node>)
     requires { vec_len nodes.old < 2 ^ 31 }
@@ -51,9 +20,11 @@ fn clear_nodes(nodes: &mut Vec<Node>)
     ensures frees { (j : ℕ) → j < length nodes.new.items → free_in nodes.new.items j ≡ j + 1 }
     ensures len { length nodes.new.items ≡ length nodes.old.items }
 {
-    let n = nodes.len();
-    for i in 0..n {
-        clear_node(nodes, i, i as u32 + 1);
+    for (i, node) in nodes.iter_mut().enumerate() {
+        *node = Node {
+            free: i as u32 + 1,
+            ..Node::BLANK
+        };
     }
 }
 
@@ -64,9 +35,12 @@ fn clear_slots<R: Copy>(slots: &mut Vec<Slot<R>>)
     ensures frees { (j : ℕ) → j < length (heads slots.new.items) → slot_free_in (heads slots.new.items) j ≡ j }
     ensures len { length (heads slots.new.items) ≡ length (heads slots.old.items) }
 {
-    let m = slots.len();
-    for k in 0..m {
-        clear_slot(slots, k, k as u32);
+    for (i, slot) in slots.iter_mut().enumerate() {
+        slot.head = Head {
+            key: None,
+            parent: 0,
+            free: i as u32,
+        };
     }
 }
 

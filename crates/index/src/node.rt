@@ -1,4 +1,6 @@
-//! A node of the tree, and what a write to one in a `Vec` leaves.
+//! A node of the tree, and what a write to one in a `Vec` leaves. These are functions of the whole `Vec` and not methods of a
+//! node, since each says what stays the same in all nodes: a method says nothing of the others, and each caller would show it.
+//! Those that read answer in the words of `specs/Nodes.antt`.
 ghost use Rattle.std.specs.Prelude.{◌≡◌, ℕ, ◌+◌, ◌-◌, ◌*◌, ◌/◌, ◌%◌, ◌^◌, ◌<◌, ◌≤◌, length, set, vec_len, MatchOption, ◌≢◌};
 ghost use Rattle.index.specs.Nodes.{path_in, parent_in, child_in, free_in};
 
@@ -8,7 +10,8 @@ use crate::children::Children;
 #[derive(Clone, Copy)]
 pub struct Node {
     pub(crate) children: Children,
-    // 0 in a free node; else a 1 and then the steps from the root to it, four bits each
+    // 0 in a free node; else a 1 and then the steps from the root to it, four bits each. No `Option`: only paths of nodes in
+    // use are read, so each read would unwrap it, and a node would be longer
     pub(crate) path: u32,
     pub(crate) parent: u32,
     // entry i of the stack of free nodes stands in node i, free or not

@@ -1,14 +1,7 @@
-use Rattle.std.proofs.Common.{arith}
+use Rattle.std.proofs.Common.{replicate}
+use Rattle.std.proofs.lemmas.List.{get_or-replicate}
+use Rattle.index.proofs.Masks.{agrees_none}
 use Rattle.index.proofs.make.clear_nodes.Goals as goal
 
-pub returns : goal.returns
-returns c =
-    let i = c.loop-i.invariant in
-    let v = c.args.nodes.now.ok.0 in
-    let e = i.0 in
-    record {
-      paths = λ j l. i.1 j (omega arith);
-      children = λ j d l dl. i.2 j d (omega arith) dl;
-      frees = λ j l. i.3 j (omega arith);
-      len = omega arith;
-    }
+pub invariant_of-node : goal.invariant_of-node
+invariant_of-node c = record { agrees = ∣ agrees_none (replicate 16 0) (λ c l. get_or-replicate 16 c 0 0 l) ∣₁ }
