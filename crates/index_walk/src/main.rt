@@ -5,16 +5,17 @@
 ghost use Rattle.std.specs.Prelude.{◌≤◌};
 
 use index::{FileRefusal, Index, IndexMemory};
-use std::alloc::{AllocError, Global};
+use shuffle::Shuffled;
+use std::alloc::Global;
 use std::collections::{BTreeMap, BTreeSet};
 
 const NODES: usize = 75;
 
 const SLOTS: usize = 22;
 
-const STEPS: u32 = 6000;
+const STEPS: usize = 6000;
 
-#[derive(Clone, Copy, Drop)]
+#[derive(Clone, Copy, Default)]
 struct Counts {
     filed: u32,
     no_slot: u32,
@@ -25,14 +26,21 @@ struct Counts {
     next: u32,
     wrong: u32,
     // the records and the nodes in use after all keys are removed
-    left: (usize, usize),
+    records_left: usize,
+    nodes_left: usize,
 }
 
-// The next of a row of pseudo-random numbers.
-fn shuffled(seed: u32) -> u32 {
-    let a = seed ^ (seed << 13);
-    let b = a ^ (a >> 17);
-    b ^ (b << 5)
+// An index, the map that it is compared with, and the counts so far.
+#[derive(Drop)]
+struct Walk {
+    heap: Global,
+    index: Index<u32>,
+    map: BTreeMap<u32, u32>,
+    counts: Counts,
+}
+
+fn add_one(count: &mut u32) {
+    *count = count.saturating_add(1);
 }
 
 // One of a few dozen keys, many of which share leading parts, with the first and the last key among them.
@@ -50,147 +58,126 @@ fn key_from(seed: u32) -> u32 {
     }
 }
 
-// The different leading parts of 1 to 7 steps among the keys.
-fn leading_parts(heap: Global, map: &BTreeMap<u32, u32>) -> anyhow::Result<BTreeSet<(u32, u32)>> {
-    let mut parts = BTreeSet::new(heap);
-    for key in map.keys() {
-        for height in 1..8u32 {
-            let _ = parts.insert((height, *key >> (4 * height)))?;
-        }
-    }
-    Ok(parts)
-}
-
-// How many leading parts of the key are none of those.
+// How many leading parts of 1 to 7 steps of the key are none of those.
 fn missing_parts(parts: &BTreeSet<(u32, u32)>, key: u32) -> usize
     ensures { result ≤ 7 }
 {
-    let mut missing = 0;
-    for height in 1..8u32 {
-        if !parts.contains(&(height, key >> (4 * height))) {
-            missing += 1;
-        }
-    }
-    missing
+    (1..8u32)
+        .filter(|height| !parts.contains(&(*height, key >> (4 * *height))))
+        .count()
 }
 
-// The refusal that the map calls for, by its number, or 0.
-fn expected_refusal(map: &BTreeMap<u32, u32>, parts: &BTreeSet<(u32, u32)>, key: u32) -> u8 {
-    if map.contains_key(&key) {
-        0
-    } else if map.len() >= SLOTS {
-        41
-    } else if parts.len() + 1 + missing_parts(parts, key) > NODES {
-        42
-    } else {
-        0
-    }
-}
-
-// One call on the index and on the map, and whether they agree.
-fn step(
-    heap: Global,
-    index: &mut Index<u32>,
-    map: &mut BTreeMap<u32, u32>,
-    seed: u32,
-    counts: &mut Counts,
-) -> anyhow::Result<bool> {
-    let key = key_from(seed >> 3);
-    match seed & 7 {
-        0..3 => {
-            let parts = leading_parts(heap, map)?;
-            let expected = expected_refusal(map, &parts, key);
-            match index.file(key, seed) {
-                Ok(()) => {
-                    let _ = map.insert(key, seed)?;
-                    counts.filed = counts.filed.wrapping_add(1);
-                    Ok(expected == 0)
-                }
-                Err(refusal) => {
-                    match refusal {
-                        FileRefusal::NoSlot => counts.no_slot = counts.no_slot.wrapping_add(1),
-                        FileRefusal::TooFewNodes => counts.few_nodes = counts
-                            .few_nodes
-                            .wrapping_add(1),
-                    }
-                    Ok(refusal.number() == expected)
-                }
+impl Walk {
+    // The different leading parts of 1 to 7 steps among the keys.
+    fn leading_parts(&self) -> anyhow::Result<BTreeSet<(u32, u32)>> {
+        let mut parts = BTreeSet::new(self.heap);
+        for key in self.map.keys() {
+            for height in 1..8u32 {
+                let _ = parts.insert((height, *key >> (4 * height)))?;
             }
         }
-        3..6 => {
-            let removed = index.remove(key);
-            if removed.is_some() {
-                counts.removed = counts.removed.wrapping_add(1);
-            } else {
-                counts.absent = counts.absent.wrapping_add(1);
-            }
-            Ok(removed == map.remove(&key))
+        Ok(parts)
+    }
+
+    // What the map says that filing under the key answers.
+    fn expected(&self, key: u32) -> anyhow::Result<Result<(), FileRefusal>> {
+        if self.map.contains_key(&key) {
+            return Ok(Ok(()));
         }
-        6 => {
-            let found = index.find(key);
-            if found.is_some() {
-                counts.found = counts.found.wrapping_add(1);
-            }
-            Ok(found == map.get(&key).copied())
+        if self.map.len() >= SLOTS {
+            return Ok(Err(FileRefusal::NoSlot));
         }
-        _ => {
-            let next = index.first_at_or_after(key);
-            if next.is_some() {
-                counts.next = counts.next.wrapping_add(1);
-            }
-            Ok(next == first_from(map, key))
+        let parts = self.leading_parts()?;
+        if parts.len() + 1 + missing_parts(&parts, key) > NODES {
+            return Ok(Err(FileRefusal::TooFewNodes));
         }
+        Ok(Ok(()))
+    }
+
+    // A call on the index and on the map, and whether they agree.
+    fn file(&mut self, key: u32, record: u32) -> anyhow::Result<bool> {
+        let expected = self.expected(key)?;
+        let answer = self.index.file(key, record);
+        match answer {
+            Ok(()) => {
+                let _ = self.map.insert(key, record)?;
+                add_one(&mut self.counts.filed);
+            }
+            Err(FileRefusal::NoSlot) => add_one(&mut self.counts.no_slot),
+            Err(FileRefusal::TooFewNodes) => add_one(&mut self.counts.few_nodes),
+        }
+        Ok(answer == expected)
+    }
+
+    fn remove(&mut self, key: u32) -> bool {
+        let removed = self.index.remove(key);
+        match removed {
+            Some(_) => add_one(&mut self.counts.removed),
+            None => add_one(&mut self.counts.absent),
+        }
+        removed == self.map.remove(&key)
+    }
+
+    fn find(&mut self, key: u32) -> bool {
+        let found = self.index.find(key);
+        if found.is_some() {
+            add_one(&mut self.counts.found);
+        }
+        found == self.map.get(&key).copied()
+    }
+
+    fn next(&mut self, key: u32) -> bool {
+        let next = self.index.first_at_or_after(key);
+        if next.is_some() {
+            add_one(&mut self.counts.next);
+        }
+        next == self.map.range(key..).next().map(|(k, _)| *k)
+    }
+
+    // One of the calls, by the number given.
+    fn step(&mut self, seed: u32) -> anyhow::Result<bool> {
+        let key = key_from(seed >> 3);
+        match seed & 7 {
+            0..3 => self.file(key, seed),
+            3..6 => Ok(self.remove(key)),
+            6 => Ok(self.find(key)),
+            _ => Ok(self.next(key)),
+        }
+    }
+
+    // Whether the index says of its counts what the map does.
+    fn sizes_agree(&self) -> anyhow::Result<bool> {
+        let parts = self.leading_parts()?;
+        Ok(self.index.count() == self.map.len() && self.index.nodes_in_use() == parts.len() + 1)
+    }
+
+    // Removes every key, in their order, and counts the records and nodes that are still in use.
+    fn remove_all(&mut self) {
+        for _ in 0..SLOTS {
+            if let Some(key) = self.index.first_at_or_after(0) {
+                let _ = self.index.remove(key);
+            }
+        }
+        self.counts.records_left = self.index.count();
+        self.counts.nodes_left = self.index.nodes_in_use();
     }
 }
 
-fn first_from(map: &BTreeMap<u32, u32>, key: u32) -> Option<u32> {
-    let mut rest = map.range(key..);
-    match rest.next() {
-        Some((k, _)) => Some(*k),
-        None => None,
-    }
-}
-
-// Whether the index says of its counts what the map does.
-fn sizes_agree(heap: Global, index: &Index<u32>, map: &BTreeMap<u32, u32>) -> anyhow::Result<bool> {
-    let parts = leading_parts(heap, map)?;
-    Ok(index.count() == map.len() && index.nodes_in_use() == parts.len() + 1)
-}
-
-fn walk(heap: Global) -> anyhow::Result<Counts> {
-    let mut index = Index::new(IndexMemory::new(heap, NODES, SLOTS, 0u32)?);
-    let mut map = BTreeMap::new(heap);
-    let mut counts = Counts {
-        filed: 0,
-        no_slot: 0,
-        few_nodes: 0,
-        removed: 0,
-        absent: 0,
-        found: 0,
-        next: 0,
-        wrong: 0,
-        left: (0, 0),
+fn walk_all(heap: Global) -> anyhow::Result<Counts> {
+    let mut walk = Walk {
+        heap,
+        index: Index::new(IndexMemory::new(heap, NODES, SLOTS, 0u32)?),
+        map: BTreeMap::new(heap),
+        counts: Counts::default(),
     };
-    let mut seed = 2463534242u32;
-    for _ in 0..STEPS {
-        seed = shuffled(seed);
-        let agree = step(heap, &mut index, &mut map, seed, &mut counts)?;
-        if !agree || !sizes_agree(heap, &index, &map)? {
-            counts.wrong = counts.wrong.wrapping_add(1);
+    for seed in Shuffled::new(2463534242).take(STEPS) {
+        let agree = walk.step(seed)?;
+        if !agree || !walk.sizes_agree()? {
+            add_one(&mut walk.counts.wrong);
         }
     }
-    counts.left = left_after_removals(&mut index);
-    Ok(counts)
-}
-
-// Removes every key, in their order, and says how many records and nodes are still in use.
-fn left_after_removals(index: &mut Index<u32>) -> (usize, usize) {
-    for _ in 0..SLOTS {
-        if let Some(key) = index.first_at_or_after(0) {
-            let _ = index.remove(key);
-        }
-    }
-    (index.count(), index.nodes_in_use())
+    walk.remove_all();
+    Ok(walk.counts)
 }
 
 // How many nodes two keys take in an index with room enough.
@@ -202,7 +189,7 @@ fn nodes_of(heap: Global, a: u32, b: u32) -> anyhow::Result<usize> {
 }
 
 fn run(rt: &HostRuntime, heap: Global) -> anyhow::Result<()> {
-    let c = walk(heap)?;
+    let c = walk_all(heap)?;
     println!(rt;
         "filed {}, refused {} for a slot and {} for nodes",
         c.filed, c.no_slot, c.few_nodes
@@ -213,7 +200,7 @@ fn run(rt: &HostRuntime, heap: Global) -> anyhow::Result<()> {
     )?;
     println!(rt;
         "wrong {} of {}; left {} records, {} node",
-        c.wrong, STEPS, c.left.0, c.left.1
+        c.wrong, STEPS, c.records_left, c.nodes_left
     )?;
     let near = nodes_of(heap, 0, 1)?;
     let far = nodes_of(heap, 0, 268_435_456)?;

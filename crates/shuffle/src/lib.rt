@@ -39,8 +39,11 @@ mod tests {
 
     #[test]
     fn first_numbers(rt: HostRuntime) -> Result<(), Fail> {
-        let row = Shuffled::new(2463534242).take(3).collect(rt.alloc())?;
-        assert_eq!(rt; row.as_slice(), [723471715, 2497366906, 2064144800].as_slice());
+        let row: Vec<u32> = Shuffled::new(2463534242).take(3).collect(rt.alloc())?;
+        assert_eq!(rt;
+            row.as_slice(),
+            [723471715, 2497366906, 2064144800].as_slice()
+        );
         Ok(())
     }
 }
