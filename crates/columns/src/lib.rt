@@ -64,6 +64,7 @@ fn put_count(field: &mut [u8], count: Count)
 }
 
 // Writes the counts at the start of the buffer, a column each.
+// By index: after a `chunks_exact_mut` the prover knows nothing of what the buffer holds, and `bytes` stays open.
 fn put_counts(buffer: &mut [u8], counts: &[Count])
     requires { 11 * length counts.now ≤ length buffer.old }
     ensures bytes { buffer.new ≡ flat_map value_text counts.now ++ drop (11 * length counts.now) buffer.old }

@@ -20,12 +20,6 @@ abbrev at : ℕ → List (List ℕ) → Cursor
 at n fs = record { next = n; fields = fs }
 
 -- a step that reads, and what it leaves
-then_ok : {X Y : Type 0} (r : Read X) (x : X) (s : Cursor) (f : X → Cursor → Read Y) → r ≡ Ok (x, s) → then r f ≡ f x s
-then_ok r x s f e = ap (λ (r : Read _). then r f) e
-
-making_ok : {X Y : Type 0} (r : Read X) (x : X) (s : Cursor) (f : X → Y) → r ≡ Ok (x, s) → making r f ≡ Ok (f x, s)
-making_ok r x s f e = ap (λ (r : Read _). making r f) e
-
 then_only : {X Y : Type 0} (r : Read X) (f : X → Cursor → Read Y) (y : Y) (t : Cursor) → then r f ≡ Ok (y, t)
     → (x : X) × (s : Cursor) × (r ≡ Ok (x, s)) × (f x s ≡ Ok (y, t))
 then_only (Ok p) f y t e = (p.0, p.1, refl, e)
@@ -42,9 +36,6 @@ making_only {X} {Y} (Ok p) f y t e =
 making_only (Err d) f y t e = cc
 
 -- one number
-number_step : (n v : ℕ) (fs : List (List ℕ)) → v < 2 ^ 16 → number (at n (decimal v ∷ fs)) ≡ Ok (v, at (n + 1) fs)
-number_step n v fs h = ap (field_read n fs) (number_back v h)
-
 field_only : (n : ℕ) (fs : List (List ℕ)) (o : Option ℕ) (v : ℕ) (t : Cursor) → field_read n fs o ≡ Ok (v, t) → (o ≡ Some v) × (fs ≡ t.fields)
 field_only n fs None v t e = cc
 field_only n fs (Some w) v t e =
@@ -62,11 +53,6 @@ number_only_one : (s : Cursor) (v : ℕ) (t : Cursor) → number s ≡ Ok (v, t)
 number_only_one s v t e = from_only s.next s.fields v t e
 
 -- one byte
-byte_step : (n b : ℕ) (fs : List (List ℕ)) → b < 2 ^ 8 → byte (at n (decimal b ∷ fs)) ≡ Ok (b, at (n + 1) fs)
-byte_step n b fs h =
-    let e = number_step n b fs (omega arith) in
-    ap (at_most_255 n) e ∙ rw (lt-ltb b 256 h)
-
 granted : {X : Type 0} (b : Bool) (x : Result X LineRefusal) (d : LineRefusal) (y : X) → cond b x (Err d) ≡ Ok y → (b ≡ true) × (x ≡ Ok y)
 granted true x d y e = (refl, e)
 granted false x d y e = cc

@@ -1,13 +1,11 @@
 -- The lines of a script, over plain lists.
-use Rattle.std.proofs.Common.{◌≡◌, ℕ, suc, ◌+◌, ◌<◌, ◌≤◌, Bool, true, false, cond, not, eqb, ltb, List, [], ◌∷◌, length, take, drop, Some, Ok, sym, refl, ap, ◌∙◌, add-one, one-add, arith, lt-ltb, eqb-true, le-leb}
+use Rattle.std.proofs.Common.{◌≡◌, ℕ, suc, ◌+◌, ◌<◌, ◌≤◌, Bool, true, false, cond, not, eqb, ltb, List, [], ◌∷◌, length, take, drop, Some, sym, refl, ap, ◌∙◌, add-one, one-add, arith, lt-ltb, eqb-true, le-leb}
 use Prim.Native.Nat.compare
 use borrow.Author.Tests.{eqb-false}
-use Rattle.std.proofs.lemmas.List.{nil_from_length}
 use Rattle.std.proofs.lemmas.List.Folds.{length-prefix_len}
 use Rattle.std.specs.List.{flat_map, AllByRecursion}
 use Rattle.tokens.specs.Cuts.{before}
 use Rattle.script.specs.Lines.{Row, widened, lines_of, with_end, NoFeed, AllEnded, LinesLaw, first_text, level_line, level_or, script_level}
-use Rattle.script.specs.declared.levels.Level.{Level}
 use Rattle.script.specs.Rows.{first_row, later_rows}
 
 -- the first line, and the lines behind its end
@@ -30,9 +28,6 @@ lines_step [] h = absurd (omega arith)
 lines_step (c ∷ []) h = by_feed c [] (before 10 []) (eqb c 10) refl
 lines_step (c ∷ d ∷ s) h =
     by_feed c (d ∷ s) (before 10 (d ∷ s)) (eqb c 10) (ap (widened c) (lines_step (d ∷ s) (omega arith)) ∙ past_byte c (d ∷ s) (before 10 (d ∷ s)))
-
-pub no_lines : (s : List ℕ) → length s ≡ 0 → lines_of s ≡ []
-no_lines s e = ap lines_of (nil_from_length s e)
 
 pub first_line : (s text : List ℕ) → 0 < length s → text ≡ take (before 10 s) s
     → Some (record { text = text; ended = ltb (length text) (length s) }) ≡ first_row (lines_of s)
@@ -98,11 +93,6 @@ lines_law s = record { join = lines_join s; feeds = lines_feeds s; ends = lines_
 first_text_is : (s : List ℕ) → first_text (lines_of s) ≡ take (before 10 s) s
 first_text_is [] = refl
 first_text_is (c ∷ s) = ap first_text (lines_step (c ∷ s) (omega arith))
-
--- a line that sets a level is not empty
-pub level_some : (t : List ℕ) (l : Level) → Ok l ≡ level_or (level_line t) → 0 < length t
-level_some [] l e = cc
-level_some (c ∷ t) l e = omega arith
 
 -- the level of a script, by its length and its first line
 pub level_by_line : (s text : List ℕ) → length s ≤ 65536 → text ≡ take (before 10 s) s → level_or (level_line text) ≡ script_level s

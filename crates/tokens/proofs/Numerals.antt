@@ -89,6 +89,3 @@ number_only (c ∷ s) v e =
     let p = not_zero_first (zero_first f) (scanned 0 f) v e in
     let r = scanned_only 0 f v (omega arith) p.1 in
     (sym (decimal-digits_value own f r.0 (omega arith) (lone_zero f (omega arith) p.0) (omega (arith, r))) ∙ ap decimal r.1, r.2)
-
-pub decimal_digits : (v : ℕ) → v < 2 ^ 64 → all_ascii_digits (decimal v) ≡ true
-decimal_digits v h = digits_decimal own v h
