@@ -98,6 +98,7 @@ fn put_values(buffer: &mut [u8], values: &Values) -> usize
 }
 
 impl OutputLine {
+    // A buffer and a length, and no `String`: a line's bytes are the caller's, so that no call allocates.
     /// Writes the line at the start of the buffer, answers its length, and leaves the rest of the buffer.
     pub fn write(&self, buffer: &mut [u8; LINE_BYTES]) -> usize
         ensures within { result ≤ 110 }

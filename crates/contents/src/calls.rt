@@ -77,6 +77,7 @@ impl Contents {
         self.find_page(&FingerprintedPage::new(page)?)
     }
 
+    // A flag, and no `Option` of a page: the page goes into the caller's buffer at once, and is copied only there.
     /// Copies the page of a content out, and answers whether there is such a content and `out` has the length of a page.
     pub fn read(&self, content: u16, out: &mut [u8]) -> bool
         ensures answer { result ≡ (nat_lt content (length (users_of self.now)) && length out.old == 256) }

@@ -24,7 +24,7 @@ pub(crate) fn sweep_from(frames: &mut [Frame], hand: usize) -> usize
     ensures within { result < length frames.old }
 {
     let mut place = hand;
-    // A `loop` that yields the frame by `break`: a form that the rules ask for.
+    // A `loop` that yields the frame by `break`, and no `for`: the hand goes round until a frame stops it.
     'turn: loop {
         if !frames[place].is_passed() {
             break 'turn place;

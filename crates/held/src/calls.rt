@@ -22,7 +22,7 @@ impl Held {
         self.size as u16
     }
 
-    // The same of the ring of free places.
+    // The same of the ring of free places. By a name of its own, since as a parameter it would be no more than the 1 that is added.
     fn free_end(&self) -> u16
         ensures { result ≡ self.now.size + 1 }
     {

@@ -28,6 +28,7 @@ fn clear_nodes(nodes: &mut Vec<Node>)
     }
 }
 
+// A loop of its own beside that of the nodes: a slot keeps its record, and one function for both would need a closure for each.
 // Frees every slot: entry i of the stack of free slots is slot i.
 fn clear_slots<R: Copy>(slots: &mut Vec<Slot<R>>)
     requires { length (heads slots.old.items) < 2 ^ 31 }

@@ -2,7 +2,8 @@
 use super::node::Node;
 use super::slot::Slot;
 
-// Its nodes and slots, of which the free ones are counted.
+// Its nodes and slots, of which the free ones are counted. They are numbered and not boxed, since all memory is given at making.
+// No ghost field says that the tree is sound: while a call is under way a node may have no child yet, and `Sound` names that node.
 #[derive(Drop)]
 pub(crate) struct Tree<R> {
     pub(crate) nodes: Vec<Node>,

@@ -72,6 +72,7 @@ impl<B: Backend> Tour<'_, B> {
         }
     }
 
+    // A method for each of a backend's three drops, which share what they print.
     pub fn drop_page(&mut self, key: Key) -> io::Result<()> {
         self.pile.drop_page(key);
         self.print_done("drop page", key)

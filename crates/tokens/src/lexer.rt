@@ -23,6 +23,7 @@ impl<'a> Tokens<'a> {
         }
     }
 
+    // For a number and for a letter, since one function for both would take a closure that is as long as either.
     /// The number that the next token writes, or none where it writes none or there is none.
     pub fn next_value(&mut self) -> Option<u16>
         ensures value { result ≡ value_of (first_token (left self.old.rest) self.old.place) }
