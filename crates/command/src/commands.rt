@@ -82,6 +82,7 @@ impl LineRefusal {
         }
     }
 
+    // 0 and no `Option`: a number is printed in any case.
     /// The number that is printed with it: the field, or 0.
     pub fn value(self) -> u8
         ensures { result ≡ line_refusal_value self }

@@ -61,6 +61,7 @@ impl Contents {
         self.in_use
     }
 
+    // 0 and no `Option`: a content that there is not has no users.
     /// How many use a content; 0 where there is no such content.
     pub fn users(&self, content: u16) -> u16
         ensures { result ≡ slice_index (users_of self.now) content }
@@ -77,7 +78,7 @@ impl Contents {
         self.find_page(&FingerprintedPage::new(page)?)
     }
 
-    // A flag, and no `Option` of a page: the page goes into the caller's buffer at once, and is copied only there.
+    // A flag, as the stores above answer one for a page that they copy into the caller's buffer.
     /// Copies the page of a content out, and answers whether there is such a content and `out` has the length of a page.
     pub fn read(&self, content: u16, out: &mut [u8]) -> bool
         ensures answer { result ≡ (nat_lt content (length (users_of self.now)) && length out.old == 256) }

@@ -129,6 +129,7 @@ impl HeldPages for SharedPages {
         found
     }
 
+    // The four below ask `held`, as the other store's do: as bodies in the trait they would make `store` stand on `held`.
     fn holds(&self, key: Key) -> bool {
         self.held.find(key).is_some()
     }

@@ -67,55 +67,64 @@ impl fmt::Display for Words<Level> {
     }
 }
 
-fn append_words<T: fmt::Display + Drop>(
+// What is printed, line by line.
+#[derive(Drop)]
+struct Report {
     heap: Global,
-    report: &mut Vec<u8>,
-    number: u16,
-    words: T,
-) -> Result<(), AllocError> {
-    let text = format!(in heap; "{number:>6} {words}\n")?;
-    report.extend_from_slice(text.as_bytes())
+    text: Vec<u8>,
 }
 
-fn append_line(report: &mut Vec<u8>, line: OutputLine) -> Result<(), AllocError> {
-    let mut buffer = [0; LINE_BYTES];
-    let length = line.write(&mut buffer);
-    report.extend_from_slice(&buffer[..length])
-}
+impl Report {
+    fn new(heap: Global) -> Report {
+        Report {
+            heap,
+            text: Vec::new(heap),
+        }
+    }
 
-fn explain_line(heap: Global, report: &mut Vec<u8>, line: Line<'_>) -> Result<(), AllocError> {
-    match read_line(line.text) {
-        Ok(command) => append_words(heap, report, line.number, Words(command)),
-        Err(refusal) => append_line(
-            report,
-            OutputLine {
+    fn add_words<T: fmt::Display + Drop>(
+        &mut self,
+        number: u16,
+        words: T,
+    ) -> Result<(), AllocError> {
+        let text = format!(in self.heap; "{number:>6} {words}\n")?;
+        self.text.extend_from_slice(text.as_bytes())
+    }
+
+    fn add_line(&mut self, line: OutputLine) -> Result<(), AllocError> {
+        let mut buffer = [0; LINE_BYTES];
+        let length = line.write(&mut buffer);
+        self.text.extend_from_slice(&buffer[..length])
+    }
+
+    fn explain_line(&mut self, line: Line<'_>) -> Result<(), AllocError> {
+        match read_line(line.text) {
+            Ok(command) => self.add_words(line.number, Words(command)),
+            Err(refusal) => self.add_line(OutputLine {
                 line: line.number,
                 answer: refusal.number(),
                 values: Values::Number(u32::from(refusal.value())),
-            },
-        ),
+            }),
+        }
     }
 }
 
 fn explain(heap: Global, bytes: &[u8]) -> Result<Vec<u8>, AllocError> {
-    let mut report = Vec::new(heap);
+    let mut report = Report::new(heap);
     match Script::open(bytes) {
         Ok(script) => {
-            append_words(heap, &mut report, 1, Words(script.level()))?;
+            report.add_words(1, Words(script.level()))?;
             for line in script {
-                explain_line(heap, &mut report, line)?;
+                report.explain_line(line)?;
             }
         }
-        Err(refusal) => append_line(
-            &mut report,
-            OutputLine {
-                line: 1,
-                answer: refusal.number(),
-                values: Values::Nothing,
-            },
-        )?,
+        Err(refusal) => report.add_line(OutputLine {
+            line: 1,
+            answer: refusal.number(),
+            values: Values::Nothing,
+        })?,
     }
-    Ok(report)
+    Ok(report.text)
 }
 
 // One byte more than a script may have is enough to refuse it.

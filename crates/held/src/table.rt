@@ -5,7 +5,7 @@ ghost use Rattle.held.specs.Rings.{Unlinked, Linked};
 
 use page::Key;
 
-// A place: the key that is held there, and its neighbours in its ring. The end of a ring is such a record too, whose key says nothing.
+// A place: the key that is held there, and its neighbours in its ring. The end of a ring is such a record too, whose key is never read.
 // Places are numbers, and no pointers: the table is made once, and no later call may want memory. That a place is in the table
 // stands in each contract below: it is a fact of the place, and no struct round the table could keep it.
 #[derive(Clone, Copy)]

@@ -5,7 +5,6 @@
 
 use anyhow::anyhow;
 use index::{Index, IndexMemory};
-use std::alloc::Global;
 use std::env;
 use std::str::FromStr;
 
@@ -40,16 +39,10 @@ fn key(i: u32) -> u32 {
 }
 
 // For how many of the keys the call answers true.
-fn hits<F: FnMut(u32) -> bool>(keys: u32, mut call: F) -> u32
+fn hits<F: FnMut(u32) -> bool>(keys: u32, mut call: F) -> usize
     requires { F.IsAlwaysCallable call }
 {
-    let mut hits = 0u32;
-    for i in 0..keys {
-        if call(key(i)) {
-            hits = hits.saturating_add(1);
-        }
-    }
-    hits
+    (0..keys).filter(|i| call(key(*i))).count()
 }
 
 // An index over the memory of this one, in which every key is filed.
@@ -62,7 +55,8 @@ fn filled(index: Index<u64>, keys: u32) -> Index<u64> {
 }
 
 // One round, and how many of its calls found something.
-fn round(index: Index<u64>, phase: Phase, keys: u32) -> (Index<u64>, u32) {
+fn round(index: Index<u64>, phase: Phase, keys: u32) -> (Index<u64>, usize) {
+    // a match, since a phase is one of five words of the command line
     match phase {
         Phase::Make => (Index::new(index.into_memory()), 0),
         Phase::File => (filled(index, keys), 0),
@@ -87,7 +81,7 @@ fn round(index: Index<u64>, phase: Phase, keys: u32) -> (Index<u64>, u32) {
     }
 }
 
-fn run(rt: &HostRuntime, heap: Global) -> anyhow::Result<()> {
+fn run(rt: &HostRuntime) -> anyhow::Result<()> {
     let mut args = env::args(rt)?;
     let _ = args.next();
     let (Some(keys), Some(phase), Some(rounds)) = (args.next(), args.next(), args.next()) else {
@@ -97,9 +91,9 @@ fn run(rt: &HostRuntime, heap: Global) -> anyhow::Result<()> {
     let rounds = rounds.as_str().parse::<u32>()?;
     let phase = phase.as_str().parse::<Phase>()?;
     let slots = keys as usize;
-    let memory = IndexMemory::new(heap, slots * 7 + 1, slots, 0u64)?;
+    let memory = IndexMemory::new(rt.alloc(), slots * 7 + 1, slots, 0u64)?;
     let mut index = filled(Index::new(memory), keys);
-    let mut hits = 0u32;
+    let mut hits = 0usize;
     for _ in 0..rounds {
         let (next, found) = round(index, phase, keys);
         index = next;
@@ -113,6 +107,5 @@ fn run(rt: &HostRuntime, heap: Global) -> anyhow::Result<()> {
 }
 
 fn main(rt: HostRuntime) -> anyhow::Result<()> {
-    let heap = rt.alloc();
-    run(&rt, heap)
+    run(&rt)
 }

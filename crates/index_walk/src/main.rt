@@ -94,7 +94,7 @@ impl Walk {
         Ok(Ok(()))
     }
 
-    // A call on the index and on the map, and whether they agree.
+    // Each of the four below makes a call on the index and on the map, and says whether they agree.
     fn file(&mut self, key: u32, record: u32) -> anyhow::Result<bool> {
         let expected = self.expected(key)?;
         let answer = self.index.file(key, record);
@@ -188,7 +188,8 @@ fn nodes_of(heap: Global, a: u32, b: u32) -> anyhow::Result<usize> {
     Ok(index.nodes_in_use())
 }
 
-fn run(rt: &HostRuntime, heap: Global) -> anyhow::Result<()> {
+fn run(rt: &HostRuntime) -> anyhow::Result<()> {
+    let heap = rt.alloc();
     let c = walk_all(heap)?;
     println!(rt;
         "filed {}, refused {} for a slot and {} for nodes",
@@ -209,6 +210,5 @@ fn run(rt: &HostRuntime, heap: Global) -> anyhow::Result<()> {
 }
 
 fn main(rt: HostRuntime) -> anyhow::Result<()> {
-    let heap = rt.alloc();
-    run(&rt, heap)
+    run(&rt)
 }

@@ -53,7 +53,7 @@ impl<A: Backend, B: Backend> Divider<A, B> {
     }
 }
 
-// Each call chooses its side itself: the sides are of two types, so no function can hand out the right one.
+// Each call chooses its side itself: the sides are of two types, and the gate refuses a function that hands out a `dyn`.
 impl<A: Backend, B: Backend> Backend for Divider<A, B> {
     ghost state = { divider_state A.Backend.state B.Backend.state };
 

@@ -1,5 +1,5 @@
 //! The third level: file pages as at the second, equal anonymous pages stored once.
-use crate::tour::{Tour, key};
+use crate::printed::{PrintedPile, key};
 use contents::ContentsMemory;
 use dedup::{Dedup, new_dedup};
 use index::IndexMemory;
@@ -29,66 +29,66 @@ fn new_pile(heap: Global) -> Result<Pile, AllocError> {
 }
 
 // How many anonymous pages are held, and how many different ones.
-fn print_counts(tour: &Tour<'_, Pile>) -> anyhow::Result<()> {
-    let rt = tour.rt;
-    let (held, different) = tour.pile.second().pages().counts();
+fn print_counts(printed: &PrintedPile<'_, Pile>) -> anyhow::Result<()> {
+    let rt = printed.rt;
+    let (held, different) = printed.pile.second().pages().counts();
     println!(rt; "    anonymous pages: {held} held, {different} different")?;
     Ok(())
 }
 
-fn offer(tour: &mut Tour<'_, Pile>, key: Key, byte: u8) -> anyhow::Result<()> {
-    tour.put(key, byte)?;
-    print_counts(tour)
+fn offer(pile: &mut PrintedPile<'_, Pile>, key: Key, byte: u8) -> anyhow::Result<()> {
+    pile.put(key, byte)?;
+    print_counts(pile)
 }
 
-fn shared(tour: &mut Tour<'_, Pile>) -> anyhow::Result<()> {
-    let rt = tour.rt;
+fn shared(pile: &mut PrintedPile<'_, Pile>) -> anyhow::Result<()> {
+    let rt = pile.rt;
     println!(rt; "Equal pages under many keys:")?;
     for index in 0..4u32 {
-        offer(tour, key(1, 0, index), 7)?;
+        offer(pile, key(1, 0, index), 7)?;
     }
-    offer(tour, key(3, 0, 0), 7)?;
-    offer(tour, key(3, 0, 1), 8)?;
+    offer(pile, key(3, 0, 0), 7)?;
+    offer(pile, key(3, 0, 1), 8)?;
     println!(rt; "One overwritten, by a page that is new and by one that is there:")?;
-    offer(tour, key(1, 0, 0), 9)?;
-    offer(tour, key(1, 0, 1), 8)?;
-    tour.get(key(1, 0, 0))?;
-    tour.get(key(1, 0, 1))?;
-    tour.get(key(1, 0, 2))?;
+    offer(pile, key(1, 0, 0), 9)?;
+    offer(pile, key(1, 0, 1), 8)?;
+    pile.get(key(1, 0, 0))?;
+    pile.get(key(1, 0, 1))?;
+    pile.get(key(1, 0, 2))?;
     println!(rt; "One of several dropped, and the last of a content:")?;
-    tour.drop_page(key(3, 0, 0))?;
-    print_counts(tour)?;
-    tour.drop_page(key(1, 0, 0))?;
-    print_counts(tour)
+    pile.drop_page(key(3, 0, 0))?;
+    print_counts(pile)?;
+    pile.drop_page(key(1, 0, 0))?;
+    print_counts(pile)
 }
 
-fn refusals(tour: &mut Tour<'_, Pile>) -> anyhow::Result<()> {
-    let rt = tour.rt;
+fn refusals(pile: &mut PrintedPile<'_, Pile>) -> anyhow::Result<()> {
+    let rt = pile.rt;
     println!(rt; "Different pages until none has a place; an equal one still has:")?;
     for index in 0..31u32 {
-        tour.put(key(5, 0, index), 100 + index as u8)?;
+        pile.put(key(5, 0, index), 100 + index as u8)?;
     }
-    offer(tour, key(5, 1, 0), 100)?;
+    offer(pile, key(5, 1, 0), 100)?;
     println!(rt; "Equal pages until no place is free:")?;
     for index in 0..32u32 {
-        tour.put(key(7, 0, index), 7)?;
+        pile.put(key(7, 0, index), 7)?;
     }
-    print_counts(tour)?;
+    print_counts(pile)?;
     println!(rt; "File pages, up to the limit:")?;
     for index in 0..=LIMIT {
-        tour.put(key(0, 0, index), index as u8)?;
+        pile.put(key(0, 0, index), index as u8)?;
     }
-    tour.print_holdings()?;
+    pile.print_holdings()?;
     Ok(())
 }
 
 /// A divider on quota over local, and on deduplicating.
-pub fn show(rt: &HostRuntime, heap: Global) -> anyhow::Result<()> {
+pub fn show(rt: &HostRuntime) -> anyhow::Result<()> {
     println!(rt;
         "Level 3: a divider on quota over local, {SLOTS} slots, limits {LIMIT}, and on deduplicating, {SHARED_SLOTS} slots, {CONTENTS} contents"
     )?;
-    let pile = new_pile(heap)?;
-    let mut tour = Tour { rt, pile };
-    shared(&mut tour)?;
-    refusals(&mut tour)
+    let pile = new_pile(rt.alloc())?;
+    let mut printed = PrintedPile { rt, pile };
+    shared(&mut printed)?;
+    refusals(&mut printed)
 }

@@ -84,6 +84,7 @@ impl HeldPages for LocalPages {
         self.memory.read(usize::from(place), out).is_ok()
     }
 
+    // The four below ask `held`, as the other store's do: as bodies in the trait they would make `store` stand on `held`.
     fn holds(&self, key: Key) -> bool {
         self.held.find(key).is_some()
     }

@@ -33,6 +33,7 @@ pub enum ScriptRefusal {
 
 impl ScriptRefusal {
     /// The number that the refusal is told by.
+    // A match, and no discriminants: both cases have one number, and two cases of an enum cannot.
     pub fn number(self) -> u8
         ensures { result ≡ script_refusal_number self }
     {
@@ -50,9 +51,12 @@ impl TryFrom<&[u8]> for Level {
     /// The level that a line sets, where it is exactly a level line.
     fn try_from(line: &[u8]) -> Result<Level, ScriptRefusal> {
         match line {
-            b"P 1" => Ok(Level::Bare),
-            b"P 2" => Ok(Level::Shared),
-            b"P 3" => Ok(Level::Packed),
+            [letter, b' ', digit] => match (char::from(*letter), char::from(*digit)) {
+                ('P', '1') => Ok(Level::Bare),
+                ('P', '2') => Ok(Level::Shared),
+                ('P', '3') => Ok(Level::Packed),
+                _ => Err(ScriptRefusal::NoLevel),
+            },
             _ => Err(ScriptRefusal::NoLevel),
         }
     }

@@ -1,4 +1,4 @@
--- The row of pseudo-random numbers.
+-- The sequence of pseudo-random numbers.
 use Rattle.std.specs.Prelude.{ℕ, ◌*◌, ◌/◌, ◌%◌, ◌^◌, bit_xor}
 
 -- the number after n: thrice it is joined by exclusive or with itself, shifted 13 bits up, 17 down and 5 up

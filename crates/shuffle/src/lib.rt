@@ -1,17 +1,17 @@
-//! A row of pseudo-random numbers, for programs that try many calls.
+//! A sequence of pseudo-random numbers, for programs that try many calls.
 #![tactic(auto)]
 
 ghost use Rattle.std.specs.Prelude.{◌≡◌, Some};
 ghost use Rattle.shuffle.specs.Row.{after};
 
-/// The numbers after a given one, without end: each is made of the one before it. The row of 0 is 0 throughout.
+/// The numbers after a given one, without end: each is made of the one before it. After 0 they are all 0.
 #[derive(Clone, Copy)]
 pub struct Shuffled {
     last: u32,
 }
 
 impl Shuffled {
-    /// The row after the number.
+    /// The numbers after the given one.
     pub fn new(seed: u32) -> Shuffled
         ensures { result.last ≡ seed }
     {

@@ -22,6 +22,7 @@ pub trait HeldPages {
     fn lacks(&self, page: &[u8]) -> bool
         ensures { result ≡ lack (fixed self.now) (entries self.now) page.now };
 
+    // A flag, as of a set's insert: the store, which knows its label, makes the refusal.
     /// Adds a page at the end, and says whether it could.
     fn append(&mut self, key: Key, page: &[u8]) -> bool
         ensures answer { result ≡ joins (lack (fixed self.old) (entries self.old) page.now) key.number page.now (entries self.old) }
@@ -33,12 +34,13 @@ pub trait HeldPages {
         ensures entries { entries self.new ≡ without (one key.number) (entries self.old) }
         ensures fixed { fixed self.new ≡ fixed self.old };
 
-    // A flag, and no `Option` of a page: the page goes into the caller's buffer at once, and is copied only there.
+    // A flag, and no lent page: what `take` gives is gone from the store, and a read is told in the same words.
     /// Copies the page under a key out, and says whether there was one.
     fn read(&self, key: Key, out: &mut [u8]) -> bool
         ensures answer { result ≡ found key.number out.old (entries self.now) }
         ensures buffer { out.new ≡ filled key.number out.old (entries self.now) };
 
+    // A flag, and no `Option` of a page: the page goes into the caller's buffer at once, and is copied only there.
     /// Takes the page under a key out and copies it, and says whether there was one. Where `out` is no page, nothing happens.
     fn take(&mut self, key: Key, out: &mut [u8]) -> bool
         ensures answer { result ≡ found key.number out.old (entries self.old) }

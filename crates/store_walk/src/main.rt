@@ -12,7 +12,6 @@ use local::new_local;
 use page::{Key, PAGE_BYTES};
 use plain::{Plain, Reach};
 use shuffle::Shuffled;
-use std::alloc::Global;
 use store::HeldPages;
 
 const STEPS: usize = 6000;
@@ -35,6 +34,10 @@ struct Walk<B> {
     counts: Counts,
 }
 
+fn add_one(count: &mut u32) {
+    *count = count.saturating_add(1);
+}
+
 // One of a few dozen keys of five pools, two objects in each; most are ephemeral.
 fn key_from(seed: u32) -> Key {
     let pool = match (seed >> 4) & 7 {
@@ -50,26 +53,22 @@ fn key_from(seed: u32) -> Key {
 // The byte that fills the page, or none where its bytes differ.
 fn filling(page: &[u8]) -> Option<u8> {
     let first = page.first().copied()?;
-    if page.iter().all(|byte| *byte == first) {
-        Some(first)
-    } else {
-        None
-    }
+    page.iter().all(|byte| *byte == first).then_some(first)
 }
 
 impl<B: Backend> Walk<B> {
     fn compare(&mut self, same: bool) {
         if !same {
-            self.counts.wrong = self.counts.wrong.saturating_add(1);
+            add_one(&mut self.counts.wrong);
         }
     }
 
     fn put(&mut self, key: Key, byte: u8) -> anyhow::Result<()> {
         let accepted = self.store.put(key, &[byte; PAGE_BYTES]).is_ok();
         if accepted {
-            self.counts.accepted = self.counts.accepted.saturating_add(1);
+            add_one(&mut self.counts.accepted);
         } else {
-            self.counts.refused = self.counts.refused.saturating_add(1);
+            add_one(&mut self.counts.refused);
         }
         let expected = self.plain.put(u32::from(key), byte)?;
         self.compare(accepted == expected);
@@ -85,9 +84,9 @@ impl<B: Backend> Walk<B> {
     fn get(&mut self, key: Key) {
         let answer = self.got(key).ok().flatten();
         if answer.is_some() {
-            self.counts.found = self.counts.found.saturating_add(1);
+            add_one(&mut self.counts.found);
         } else {
-            self.counts.missed = self.counts.missed.saturating_add(1);
+            add_one(&mut self.counts.missed);
         }
         let expected = self.plain.get(u32::from(key));
         self.compare(answer == expected);
@@ -101,7 +100,7 @@ impl<B: Backend> Walk<B> {
             Reach::Pool => self.store.drop_pool(key),
         }
         self.plain.drop_all(u32::from(key), reach);
-        self.counts.dropped = self.counts.dropped.saturating_add(1);
+        add_one(&mut self.counts.dropped);
     }
 
     // The same questions to both.
@@ -149,34 +148,40 @@ fn print_counts(rt: &HostRuntime, name: &str, counts: Counts) -> anyhow::Result<
     Ok(())
 }
 
-fn walk_local(rt: &HostRuntime, heap: Global, places: usize) -> anyhow::Result<()> {
-    let bytes = vec![in heap; 0; 6 * PAGE_BYTES + 100]?;
-    let index = IndexMemory::new(heap, 100, places, 0u16)?;
+// Walks the store and a plain list with as much room, and prints what was counted.
+fn walked<B: Backend + Drop>(
+    rt: &HostRuntime,
+    name: &str,
+    store: B,
+    plain: Plain,
+) -> anyhow::Result<Walk<B>> {
     let mut walk = Walk {
-        store: new_local(heap, 1, bytes, index)?,
-        // the pages of the walk are of four kinds at most
-        plain: Plain::new(heap, places, 4),
+        store,
+        plain,
         counts: Counts::default(),
     };
     walk.run()?;
-    print_counts(rt, "local", walk.counts)
+    print_counts(rt, name, walk.counts)?;
+    Ok(walk)
 }
 
-fn walk_dedup(
-    rt: &HostRuntime,
-    heap: Global,
-    places: usize,
-    contents: usize,
-) -> anyhow::Result<()> {
+fn walk_local(rt: &HostRuntime, places: usize) -> anyhow::Result<()> {
+    let heap = rt.alloc();
+    let bytes = vec![in heap; 0; 6 * PAGE_BYTES + 100]?;
+    let index = IndexMemory::new(heap, 100, places, 0u16)?;
+    let store = new_local(heap, 1, bytes, index)?;
+    // the pages of the walk are of four kinds at most
+    let _ = walked(rt, "local", store, Plain::new(heap, places, 4))?;
+    Ok(())
+}
+
+fn walk_dedup(rt: &HostRuntime, places: usize, contents: usize) -> anyhow::Result<()> {
+    let heap = rt.alloc();
     let memory = ContentsMemory::new(heap, 6 * PAGE_BYTES + 100, contents)?;
     let index = IndexMemory::new(heap, 100, places, 0u16)?;
-    let mut walk = Walk {
-        store: new_dedup(heap, 1, memory, index)?,
-        plain: Plain::new(heap, places, contents),
-        counts: Counts::default(),
-    };
-    walk.run()?;
-    print_counts(rt, "deduplicating", walk.counts)?;
+    let store = new_dedup(heap, 1, memory, index)?;
+    let plain = Plain::new(heap, places, contents);
+    let walk = walked(rt, "deduplicating", store, plain)?;
     let (held, different) = walk.store.pages().counts();
     let (plain_held, plain_different) = walk.plain.counts();
     println!(rt;
@@ -186,8 +191,8 @@ fn walk_dedup(
 }
 
 fn walk_all(rt: &HostRuntime) -> anyhow::Result<()> {
-    walk_local(rt, rt.alloc(), 6)?;
-    walk_dedup(rt, rt.alloc(), 6, 2)
+    walk_local(rt, 6)?;
+    walk_dedup(rt, 6, 2)
 }
 
 fn main(rt: HostRuntime) -> anyhow::Result<()> {

@@ -10,12 +10,12 @@ pub fn key(pool: u32, object: u32, index: u32) -> Key {
 
 /// A pile, and where what it does is printed.
 #[derive(Drop)]
-pub struct Tour<'a, B> {
+pub struct PrintedPile<'a, B> {
     pub rt: &'a HostRuntime,
     pub pile: B,
 }
 
-impl<B: Backend> Tour<'_, B> {
+impl<B: Backend> PrintedPile<'_, B> {
     /// How many pages each pool holds, of those that hold any.
     pub fn print_holdings(&mut self) -> io::Result<()> {
         let rt = self.rt;
