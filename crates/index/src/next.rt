@@ -6,7 +6,6 @@ ghost use Rattle.index.specs.Descents.{Descended};
 
 use super::descend::{End, step};
 use super::node::{child, next_child, parent, path};
-use super::slot::key_in;
 use super::tree::Tree;
 
 impl<R: Copy> Tree<R> {
@@ -52,6 +51,6 @@ impl<R: Copy> Tree<R> {
             item = child(&self.nodes, item, first);
         }
         let slot = item - self.nodes.len() as u32;
-        key_in(&self.slots, slot)
+        self.slots[slot as usize].head.key
     }
 }

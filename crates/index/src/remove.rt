@@ -8,7 +8,7 @@ ghost use Rattle.index.specs.Filing.{Whole, Removed, keys_of, nodes_of, slots_of
 
 use super::descend::step;
 use super::node::{Node, clear_child, next_child, parent, path, set_free, set_path};
-use super::slot::{set_free_slot, set_key, slot_parent};
+use super::slot::{set_free_slot, set_key};
 use super::tree::Tree;
 
 // Whether the node has a child.
@@ -58,7 +58,7 @@ impl<R: Copy> Tree<R> {
         ensures len { length self.new.nodes.items ≡ length self.old.nodes.items }
         ensures unused { self.new.unused ≡ self.old.unused }
     {
-        let up = slot_parent(&self.slots, slot);
+        let up = self.slots[slot as usize].head.parent;
         set_key(&mut self.slots, slot, None, up);
         clear_child(&mut self.nodes, up, step(key, 0));
         set_free_slot(&mut self.slots, self.vacant, slot);

@@ -71,31 +71,3 @@ pub(crate) fn set_record<R: Copy>(slots: &mut Vec<Slot<R>>, slot: u32, value: R)
 {
     slots[slot as usize].value = value;
 }
-
-pub(crate) fn record_in<R: Copy>(slots: &Vec<Slot<R>>, slot: u32) -> R
-    requires slot_within { slot < length (heads slots.now.items) }
-    ensures { result ≡ slice_index_or (records slots.now.items) slot result }
-{
-    slots[slot as usize].value
-}
-
-pub(crate) fn free_slot<R: Copy>(slots: &Vec<Slot<R>>, at: usize) -> u32
-    requires at_within { at < length (heads slots.now.items) }
-    ensures { result ≡ slot_free_in (heads slots.now.items) at }
-{
-    slots[at].head.free
-}
-
-pub(crate) fn slot_parent<R: Copy>(slots: &Vec<Slot<R>>, slot: u32) -> u32
-    requires slot_within { slot < length (heads slots.now.items) }
-    ensures { result ≡ slot_parent_in (heads slots.now.items) slot }
-{
-    slots[slot as usize].head.parent
-}
-
-pub(crate) fn key_in<R: Copy>(slots: &Vec<Slot<R>>, slot: u32) -> Option<u32>
-    requires slot_within { slot < length (heads slots.now.items) }
-    ensures { key_mark result ≡ mark_in (heads slots.now.items) slot }
-{
-    slots[slot as usize].head.key
-}

@@ -1,12 +1,14 @@
 use Rattle.std.proofs.Common.{◌^◌, ◌≤◌}
-use Rattle.std.proofs.Common.{◌≡◌, ℕ, suc, ◌+◌, ◌-◌, ◌<◌, length, vec_items, vec_len, sym, refl, ◌∙◌, subst, arith}
+use Rattle.std.proofs.Common.{◌≡◌, ℕ, suc, ◌+◌, ◌-◌, ◌<◌, length, vec_items, vec_len, sym, refl, ap, ◌∙◌, subst, arith}
 use Rattle.std.proofs.Common.{false, zero, Option, None, Some}
 use Rattle.std.specs.Prelude.{◌==◌}
+use Rattle.std.proofs.lemmas.List.{length-map}
 use Rattle.std.specs.Option.{IsSome, MatchOption}
 use Rattle.index.specs.Nexts.{Ahead, First}
-use Rattle.index.specs.Slots.{key_mark, marks}
+use Rattle.index.specs.Slots.{key_mark, mark_in, marks}
 use Rattle.index.specs.Sound.{heads_of}
 use Rattle.index.proofs.Below.{end_found, marks_at}
+use Rattle.index.proofs.Heads.{head_read}
 use Rattle.index.proofs.Keys.{filed_has}
 use Rattle.index.proofs.Scans.{ahead_node, ahead_child, ahead_down, first_end}
 use Rattle.index.proofs.tree.Tree.first_at_or_after.Goals as goal
@@ -72,17 +74,21 @@ overflow_sub-slot g c =
     let r = first_end c.args.self.now c.args.key c.loop-i.item (c.in_ok-top.top.height - c.loop-i._i) c.requires some c.loop-i.invariant (omega arith) in
     omega (arith, r.0)
 
-pub key_in-requires : goal.key_in-requires
-key_in-requires g c =
+pub index-requires : goal.index-requires
+index-requires g c =
     let v = c.args.self.now.nodes.ok.0 in
     let some : 0 < length (vec_items c.args.self.now.nodes) = omega (arith, not_empty (vec_len c.args.self.now.nodes) (sym c.if-is_empty.ensures)) in
     let r = first_end c.args.self.now c.args.key c.loop-i.item (c.in_ok-top.top.height - c.loop-i._i) c.requires some c.loop-i.invariant (omega arith) in
-    record { slot_within = omega (arith, r.1) }
+    let w = c.args.self.now.slots.ok.0 in
+    omega (arith, r.1, length-map (vec_items c.args.self.now.slots) (λ s. s.head))
 
 pub returns : goal.returns
 returns g c =
     let v = c.args.self.now.nodes.ok.0 in
     let some : 0 < length (vec_items c.args.self.now.nodes) = omega (arith, not_empty (vec_len c.args.self.now.nodes) (sym c.if-is_empty.ensures)) in
     let r = first_end c.args.self.now c.args.key c.loop-i.item (c.in_ok-top.top.height - c.loop-i._i) c.requires some c.loop-i.invariant (omega arith) in
-    let f = r.2 (key_mark c.key_in.result) c.len.result (omega arith) c.key_in.ensures in
-    found c.key_in.result f.0 _ (First c.args.self.now c.args.key) f.2
+    let key = c.index.result.now.head.key in
+    let slot = c.loop-i.item - c.len.result in
+    let is : key_mark key ≡ mark_in (heads_of c.args.self.now) slot = ap (λ h. key_mark h.key) (head_read (vec_items c.args.self.now.slots) slot c.index.result.now (omega (arith, r.1)) c.index.ensures) in
+    let f = r.2 (key_mark key) c.len.result (omega arith) is in
+    found key f.0 _ (First c.args.self.now c.args.key) f.2
