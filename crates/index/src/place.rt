@@ -6,7 +6,7 @@ ghost use Rattle.index.specs.Sound.{Sound, heads_of, records_of};
 ghost use Rattle.index.specs.Filing.{Whole, Placed, Refused, nodes_of, slots_of};
 
 use super::descend::{path_above, step};
-use super::node::{free, set_child, set_path};
+use super::node::{set_child, set_path};
 use super::slot::set_key;
 use super::tree::{FileRefusal, Tree};
 
@@ -29,7 +29,7 @@ impl<R: Copy> Tree<R> {
         ensures vacant { self.new.vacant ≡ self.old.vacant }
     {
         let top = self.unused - 1;
-        let x = free(&self.nodes, top);
+        let x = self.nodes[top].free;
         set_path(&mut self.nodes, x, path, node);
         set_child(&mut self.nodes, node, (path & 15) as usize, x);
         self.unused = top;
