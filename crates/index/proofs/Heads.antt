@@ -1,4 +1,4 @@
--- What a write to one slot leaves.
+-- What is read of one slot, and what a write to one leaves.
 use Rattle.std.proofs.Common.{◌≡◌, ℕ, ◌<◌, List, length, get_or, set, sym, ap, ◌∙◌, ⊎_elim}
 use Rattle.std.proofs.lemmas.List.{length-map, length-set, map-set, get_or-map, get_or-set_same, get_or-set_other, set-get_or}
 use Rattle.std.proofs.lemmas.Bool.{cases_eq}
@@ -42,3 +42,7 @@ module _ {R : Type 0} (ss : List (Slot R)) (i : ℕ) (old : Slot R) (l : i < len
 
   pub record_set : (v : R) → records (set ss i (record { head = old.head; value = v })) ≡ set (records ss) i v
   record_set v = map-set (λ s. s.value) ss i (record { head = old.head; value = v })
+
+-- a slot that is read at an index, where the number of heads is known
+pub head_read : {R : Type 0} (ss : List (Slot R)) (i : ℕ) (slot : Slot R) → i < length (heads ss) → slot ≡ get_or ss i slot → slot.head ≡ get_or (heads ss) i no_head
+head_read ss i slot l e = head_was ss i slot (rw length-map at l) e

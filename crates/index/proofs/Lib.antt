@@ -9,6 +9,7 @@ pub mod Histories
 pub mod Keys
 pub mod Masks
 pub mod Meaning
+pub mod Nodes
 pub mod Pairs
 pub mod Removing
 pub mod Scans

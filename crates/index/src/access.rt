@@ -5,7 +5,7 @@ ghost use Rattle.index.specs.Sound.{heads_of, records_of};
 ghost use Rattle.index.specs.Filing.{nodes_of, slots_of};
 
 use super::memory::IndexMemory;
-use super::slot::{record_in, set_record};
+use super::slot::set_record;
 use super::tree::{FileRefusal, Tree};
 
 impl FileRefusal {
@@ -22,7 +22,7 @@ impl<R: Copy> Tree<R> {
         requires { slot < slots_of self.now }
         ensures { result ≡ slice_index_or (records_of self.now) slot result }
     {
-        record_in(&self.slots, slot)
+        self.slots[slot as usize].value
     }
 
     pub(crate) fn set_record_at(&mut self, slot: u32, value: R)

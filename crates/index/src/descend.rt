@@ -7,7 +7,6 @@ ghost use Rattle.index.specs.Sound.{Sound, heads_of};
 ghost use Rattle.index.specs.Filing.{keys_of, slots_of};
 ghost use Rattle.index.specs.Descents.{Descended};
 
-use super::node::child;
 use super::tree::Tree;
 
 // The path of the slot of key 0.
@@ -47,7 +46,7 @@ impl<R: Copy> Tree<R> {
             return End { item, height: 8 };
         }
         for height in (0..8).rev() {
-            let next = child(&self.nodes, item, step(key, height));
+            let next = self.nodes[item as usize].children.child(step(key, height));
             if next == 0 {
                 return End {
                     item,

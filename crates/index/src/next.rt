@@ -5,8 +5,6 @@ ghost use Rattle.index.specs.Sound.{Sound, heads_of};
 ghost use Rattle.index.specs.Descents.{Descended};
 
 use super::descend::{End, step};
-use super::node::{child, next_child, parent, path};
-use super::slot::key_in;
 use super::tree::Tree;
 
 impl<R: Copy> Tree<R> {
@@ -21,14 +19,15 @@ impl<R: Copy> Tree<R> {
         let mut node = end.item;
         let mut from = step(key, end.height - 1) + 1;
         for height in end.height - 1..8 {
-            if let Some(later) = next_child(&self.nodes, node, from) {
+            let here = &self.nodes[node as usize];
+            if let Some(later) = here.children.next(from) {
                 return Some(End {
-                    item: child(&self.nodes, node, later),
+                    item: here.children.child(later),
                     height,
                 });
             }
-            from = (path(&self.nodes, node) & 15) as usize + 1;
-            node = parent(&self.nodes, node);
+            from = (here.path & 15) as usize + 1;
+            node = here.parent;
         }
         None
     }
@@ -48,10 +47,11 @@ impl<R: Copy> Tree<R> {
         let top = self.next_branch(key, end)?;
         let mut item = top.item;
         for _i in 0..top.height {
-            let first = next_child(&self.nodes, item, 0).unwrap();
-            item = child(&self.nodes, item, first);
+            let children = &self.nodes[item as usize].children;
+            let first = children.next(0).unwrap();
+            item = children.child(first);
         }
         let slot = item - self.nodes.len() as u32;
-        key_in(&self.slots, slot)
+        self.slots[slot as usize].head.key
     }
 }

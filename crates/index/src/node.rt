@@ -1,7 +1,6 @@
-//! A node of the tree, and what a write to one in a `Vec` leaves. These are functions of the whole `Vec` and not methods of a
-//! node, since each says what stays the same in all nodes: a method says nothing of the others, and each caller would show it.
-//! Those that read answer in the words of `specs/Nodes.antt`.
-ghost use Rattle.std.specs.Prelude.{◌≡◌, ℕ, ◌+◌, ◌-◌, ◌*◌, ◌/◌, ◌%◌, ◌^◌, ◌<◌, ◌≤◌, length, set, vec_len, MatchOption, ◌≢◌};
+//! A node of the tree, and what a write to one in a `Vec` leaves. The writes are functions of the whole `Vec` and not methods of
+//! a node, since each says what stays the same in all nodes: a method says nothing of the others, and each caller would show it.
+ghost use Rattle.std.specs.Prelude.{◌≡◌, ℕ, ◌+◌, ◌-◌, ◌*◌, ◌/◌, ◌%◌, ◌^◌, ◌<◌, ◌≤◌, length, set, vec_len, ◌≢◌};
 ghost use Rattle.index.specs.Nodes.{path_in, parent_in, child_in, free_in};
 
 use crate::children::Children;
@@ -26,14 +25,6 @@ impl Node {
         parent: 0,
         free: 0,
     };
-}
-
-pub(crate) fn child(nodes: &Vec<Node>, node: u32, step: usize) -> u32
-    requires node_within { node < vec_len nodes.now }
-    requires step_within { step < 16 }
-    ensures { result ≡ child_in nodes.now.items node step }
-{
-    nodes[node as usize].children.child(step)
 }
 
 // Makes `item` the child at the step.
@@ -89,35 +80,4 @@ pub(crate) fn set_free(nodes: &mut Vec<Node>, at: usize, node: u32)
     ensures len { length nodes.new.items ≡ length nodes.old.items }
 {
     nodes[at].free = node;
-}
-
-pub(crate) fn free(nodes: &Vec<Node>, at: usize) -> u32
-    requires at_within { at < vec_len nodes.now }
-    ensures { result ≡ free_in nodes.now.items at }
-{
-    nodes[at].free
-}
-
-pub(crate) fn path(nodes: &Vec<Node>, node: u32) -> u32
-    requires node_within { node < vec_len nodes.now }
-    ensures { result ≡ path_in nodes.now.items node }
-{
-    nodes[node as usize].path
-}
-
-pub(crate) fn parent(nodes: &Vec<Node>, node: u32) -> u32
-    requires node_within { node < vec_len nodes.now }
-    ensures { result ≡ parent_in nodes.now.items node }
-{
-    nodes[node as usize].parent
-}
-
-// The first step from `from` on that has a child.
-pub(crate) fn next_child(nodes: &Vec<Node>, node: u32, from: usize) -> Option<usize>
-    requires node_within { node < vec_len nodes.now }
-    requires from_within { from ≤ 16 }
-    ensures { MatchOption result ((d : ℕ) → from ≤ d → d < 16 → child_in nodes.now.items node d ≡ 0)
-        (λ s. (from ≤ s) × (s < 16) × ((d : ℕ) → from ≤ d → d < s → child_in nodes.now.items node d ≡ 0) × (child_in nodes.now.items node s ≢ 0)) }
-{
-    nodes[node as usize].children.next(from)
 }

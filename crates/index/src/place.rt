@@ -6,8 +6,8 @@ ghost use Rattle.index.specs.Sound.{Sound, heads_of, records_of};
 ghost use Rattle.index.specs.Filing.{Whole, Placed, Refused, nodes_of, slots_of};
 
 use super::descend::{path_above, step};
-use super::node::{free, set_child, set_path};
-use super::slot::{free_slot, set_key};
+use super::node::{set_child, set_path};
+use super::slot::set_key;
 use super::tree::{FileRefusal, Tree};
 
 impl<R: Copy> Tree<R> {
@@ -29,7 +29,7 @@ impl<R: Copy> Tree<R> {
         ensures vacant { self.new.vacant ≡ self.old.vacant }
     {
         let top = self.unused - 1;
-        let x = free(&self.nodes, top);
+        let x = self.nodes[top].free;
         set_path(&mut self.nodes, x, path, node);
         set_child(&mut self.nodes, node, (path & 15) as usize, x);
         self.unused = top;
@@ -52,7 +52,7 @@ impl<R: Copy> Tree<R> {
         ensures unused { self.new.unused ≡ self.old.unused }
     {
         let top = self.vacant - 1;
-        let p = free_slot(&self.slots, top);
+        let p = self.slots[top].head.free;
         let n = self.nodes.len() as u32;
         set_key(&mut self.slots, p, Some(key), node);
         set_child(&mut self.nodes, node, step(key, 0), n + p);

@@ -1,5 +1,5 @@
 //! Taking a key out.
-ghost use Rattle.std.specs.Prelude.{◌≡◌, ℕ, ◌+◌, ◌-◌, ◌*◌, ◌/◌, ◌%◌, ◌^◌, ◌<◌, ◌≤◌, true, false, length, vec_len, MatchBool, MatchOption, slice_set};
+ghost use Rattle.std.specs.Prelude.{◌≡◌, ℕ, ◌+◌, ◌-◌, ◌*◌, ◌/◌, ◌%◌, ◌^◌, ◌<◌, ◌≤◌, true, false, length, vec_len, MatchOption, slice_set};
 ghost use Rattle.index.specs.Keys.{shares};
 ghost use Rattle.index.specs.Nodes.{path_in, child_in};
 ghost use Rattle.index.specs.Slots.{marks, mark_in};
@@ -7,17 +7,9 @@ ghost use Rattle.index.specs.Sound.{Sound, heads_of, records_of};
 ghost use Rattle.index.specs.Filing.{Whole, Removed, keys_of, nodes_of, slots_of};
 
 use super::descend::step;
-use super::node::{Node, clear_child, next_child, parent, path, set_free, set_path};
-use super::slot::{set_free_slot, set_key, slot_parent};
+use super::node::{clear_child, set_free, set_path};
+use super::slot::{set_free_slot, set_key};
 use super::tree::Tree;
-
-// Whether the node has a child.
-fn has_child(nodes: &Vec<Node>, node: u32) -> bool
-    requires { node < vec_len nodes.now }
-    ensures { MatchBool result (((c : ℕ) → c < 16 → child_in nodes.now.items node c ≡ 0) → ⊥) ((c : ℕ) → c < 16 → child_in nodes.now.items node c ≡ 0) }
-{
-    next_child(nodes, node, 0).is_some()
-}
 
 impl<R: Copy> Tree<R> {
     // Frees the node, which has no child, and returns its parent.
@@ -35,8 +27,9 @@ impl<R: Copy> Tree<R> {
         ensures len { length self.new.nodes.items ≡ length self.old.nodes.items }
         ensures unused { self.new.unused ≡ self.old.unused + 1 }
     {
-        let up = parent(&self.nodes, node);
-        let last = (path(&self.nodes, node) & 15) as usize;
+        let freed = &self.nodes[node as usize];
+        let up = freed.parent;
+        let last = (freed.path & 15) as usize;
         set_path(&mut self.nodes, node, 0, up);
         clear_child(&mut self.nodes, up, last);
         set_free(&mut self.nodes, self.unused, node);
@@ -58,7 +51,7 @@ impl<R: Copy> Tree<R> {
         ensures len { length self.new.nodes.items ≡ length self.old.nodes.items }
         ensures unused { self.new.unused ≡ self.old.unused }
     {
-        let up = slot_parent(&self.slots, slot);
+        let up = self.slots[slot as usize].head.parent;
         set_key(&mut self.slots, slot, None, up);
         clear_child(&mut self.nodes, up, step(key, 0));
         set_free_slot(&mut self.slots, self.vacant, slot);
@@ -80,7 +73,7 @@ impl<R: Copy> Tree<R> {
         let slot = end.item - self.nodes.len() as u32;
         let mut node = self.free_slot(slot, key);
         for _height in 1..8u32 {
-            if has_child(&self.nodes, node) {
+            if self.nodes[node as usize].children.next(0).is_some() {
                 break;
             }
             node = self.free_node(node);

@@ -1,6 +1,6 @@
 //! A record slot: a record with what the tree keeps beside it, and what a write to one in a `Vec` leaves. As in `node.rt`
-//! these are functions of the whole `Vec`, since each says what stays the same in all slots.
-ghost use Rattle.std.specs.Prelude.{◌≡◌, ℕ, ◌+◌, ◌-◌, ◌*◌, ◌/◌, ◌%◌, ◌^◌, ◌<◌, ◌≤◌, length, vec_len, ◌≢◌, slice_index_or, slice_set};
+//! the writes are functions of the whole `Vec`, since each says what stays the same in all slots.
+ghost use Rattle.std.specs.Prelude.{◌≡◌, ℕ, ◌+◌, ◌-◌, ◌*◌, ◌/◌, ◌%◌, ◌^◌, ◌<◌, ◌≤◌, length, vec_len, ◌≢◌, slice_set};
 ghost use Rattle.index.specs.Slots.{heads, records, key_mark, mark_in, slot_parent_in, slot_free_in};
 
 // What the tree keeps beside a record.
@@ -70,32 +70,4 @@ pub(crate) fn set_record<R: Copy>(slots: &mut Vec<Slot<R>>, slot: u32, value: R)
     ensures values { records slots.new.items ≡ slice_set (records slots.old.items) slot value }
 {
     slots[slot as usize].value = value;
-}
-
-pub(crate) fn record_in<R: Copy>(slots: &Vec<Slot<R>>, slot: u32) -> R
-    requires slot_within { slot < length (heads slots.now.items) }
-    ensures { result ≡ slice_index_or (records slots.now.items) slot result }
-{
-    slots[slot as usize].value
-}
-
-pub(crate) fn free_slot<R: Copy>(slots: &Vec<Slot<R>>, at: usize) -> u32
-    requires at_within { at < length (heads slots.now.items) }
-    ensures { result ≡ slot_free_in (heads slots.now.items) at }
-{
-    slots[at].head.free
-}
-
-pub(crate) fn slot_parent<R: Copy>(slots: &Vec<Slot<R>>, slot: u32) -> u32
-    requires slot_within { slot < length (heads slots.now.items) }
-    ensures { result ≡ slot_parent_in (heads slots.now.items) slot }
-{
-    slots[slot as usize].head.parent
-}
-
-pub(crate) fn key_in<R: Copy>(slots: &Vec<Slot<R>>, slot: u32) -> Option<u32>
-    requires slot_within { slot < length (heads slots.now.items) }
-    ensures { key_mark result ≡ mark_in (heads slots.now.items) slot }
-{
-    slots[slot as usize].head.key
 }

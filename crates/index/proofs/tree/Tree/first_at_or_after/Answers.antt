@@ -1,13 +1,16 @@
 use Rattle.std.proofs.Common.{◌^◌, ◌≤◌}
-use Rattle.std.proofs.Common.{◌≡◌, ℕ, suc, ◌+◌, ◌-◌, ◌<◌, length, vec_items, vec_len, sym, refl, ◌∙◌, subst, arith}
+use Rattle.std.proofs.Common.{◌≡◌, ℕ, suc, ◌+◌, ◌-◌, ◌<◌, length, vec_items, vec_len, sym, refl, ap, ◌∙◌, subst, arith}
 use Rattle.std.proofs.Common.{false, zero, Option, None, Some}
 use Rattle.std.specs.Prelude.{◌==◌}
+use Rattle.std.proofs.lemmas.List.{length-map}
 use Rattle.std.specs.Option.{IsSome, MatchOption}
 use Rattle.index.specs.Nexts.{Ahead, First}
-use Rattle.index.specs.Slots.{key_mark, marks}
+use Rattle.index.specs.Slots.{key_mark, mark_in, marks}
 use Rattle.index.specs.Sound.{heads_of}
 use Rattle.index.proofs.Below.{end_found, marks_at}
+use Rattle.index.proofs.Heads.{head_read}
 use Rattle.index.proofs.Keys.{filed_has}
+use Rattle.index.proofs.Nodes.{child_read, next_read}
 use Rattle.index.proofs.Scans.{ahead_node, ahead_child, ahead_down, first_end}
 use Rattle.index.proofs.tree.Tree.first_at_or_after.Goals as goal
 
@@ -36,8 +39,8 @@ returns-then-end-eq0 g c =
 pub loop-i-init : goal.loop-i-init
 loop-i-init g c = subst (Ahead (vec_items c.args.self.now.nodes) (heads_of c.args.self.now) c.args.key c.in_ok-top.top.item) (let e : c.in_ok-top.top.height ≡ c.in_ok-top.top.height - 0 = omega arith in e) c.in_ok-top.ensures
 
-pub next_child-requires-clause-node_within : goal.next_child-requires-clause-node_within
-next_child-requires-clause-node_within g c =
+pub index-requires : goal.index-requires
+index-requires g c =
     let v = c.args.self.now.nodes.ok.0 in
     let some : 0 < length (vec_items c.args.self.now.nodes) = omega (arith, not_empty (vec_len c.args.self.now.nodes) (sym c.if-is_empty.ensures)) in
     let left = c.in_ok-top.top.height - (c.loop-i._i + 1) in
@@ -52,7 +55,9 @@ unwrap-first-requires g c =
     let left = c.in_ok-top.top.height - (c.loop-i._i + 1) in
     let e : c.in_ok-top.top.height - c.loop-i._i ≡ suc left = omega arith in
     let a = subst (Ahead (vec_items c.args.self.now.nodes) (heads_of c.args.self.now) c.args.key c.loop-i.item) e c.loop-i.invariant in
-    some_where _ _ c.next_child.result c.next_child.ensures (ahead_child c.requires some c.args.key c.loop-i.item left a)
+    let n = ahead_node c.requires some c.args.key c.loop-i.item left a in
+    let z = next_read (vec_items c.args.self.now.nodes) c.loop-i.item c.index.result.now n.0 c.index.ensures 0 c.next.result c.next.ensures in
+    some_where _ _ c.next.result z (ahead_child c.requires some c.args.key c.loop-i.item left a)
 
 pub loop-i-preserved : goal.loop-i-preserved
 loop-i-preserved g c =
@@ -61,8 +66,10 @@ loop-i-preserved g c =
     let left = c.in_ok-top.top.height - (c.loop-i._i + 1) in
     let e : c.in_ok-top.top.height - c.loop-i._i ≡ suc left = omega arith in
     let a = subst (Ahead (vec_items c.args.self.now.nodes) (heads_of c.args.self.now) c.args.key c.loop-i.item) e c.loop-i.invariant in
-    let z = rw c.unwrap-first.ensures at c.next_child.ensures in
-    subst (λ y. Ahead (vec_items c.args.self.now.nodes) (heads_of c.args.self.now) c.args.key y left) (sym c.child-item.ensures)
+    let n = ahead_node c.requires some c.args.key c.loop-i.item left a in
+    let node = c.index.result.now in
+    let z = next_read (vec_items c.args.self.now.nodes) c.loop-i.item node n.0 c.index.ensures 0 (Some c.unwrap-first.result) (rw c.unwrap-first.ensures at c.next.ensures) in
+    subst (λ y. Ahead (vec_items c.args.self.now.nodes) (heads_of c.args.self.now) c.args.key y left) (sym (c.child-item.ensures ∙ child_read (vec_items c.args.self.now.nodes) c.loop-i.item node n.0 c.index.ensures c.unwrap-first.result))
     (ahead_down c.requires some c.args.key c.loop-i.item left c.unwrap-first.result a z.1 z.2 z.3)
 
 pub overflow_sub-slot : goal.overflow_sub-slot
@@ -72,17 +79,21 @@ overflow_sub-slot g c =
     let r = first_end c.args.self.now c.args.key c.loop-i.item (c.in_ok-top.top.height - c.loop-i._i) c.requires some c.loop-i.invariant (omega arith) in
     omega (arith, r.0)
 
-pub key_in-requires : goal.key_in-requires
-key_in-requires g c =
+pub index-requires-2 : goal.index-requires-2
+index-requires-2 g c =
     let v = c.args.self.now.nodes.ok.0 in
     let some : 0 < length (vec_items c.args.self.now.nodes) = omega (arith, not_empty (vec_len c.args.self.now.nodes) (sym c.if-is_empty.ensures)) in
     let r = first_end c.args.self.now c.args.key c.loop-i.item (c.in_ok-top.top.height - c.loop-i._i) c.requires some c.loop-i.invariant (omega arith) in
-    record { slot_within = omega (arith, r.1) }
+    let w = c.args.self.now.slots.ok.0 in
+    omega (arith, r.1, length-map (vec_items c.args.self.now.slots) (λ s. s.head))
 
 pub returns : goal.returns
 returns g c =
     let v = c.args.self.now.nodes.ok.0 in
     let some : 0 < length (vec_items c.args.self.now.nodes) = omega (arith, not_empty (vec_len c.args.self.now.nodes) (sym c.if-is_empty.ensures)) in
     let r = first_end c.args.self.now c.args.key c.loop-i.item (c.in_ok-top.top.height - c.loop-i._i) c.requires some c.loop-i.invariant (omega arith) in
-    let f = r.2 (key_mark c.key_in.result) c.len.result (omega arith) c.key_in.ensures in
-    found c.key_in.result f.0 _ (First c.args.self.now c.args.key) f.2
+    let key = c.index-2.result.now.head.key in
+    let slot = c.loop-i.item - c.len.result in
+    let is : key_mark key ≡ mark_in (heads_of c.args.self.now) slot = ap (λ h. key_mark h.key) (head_read (vec_items c.args.self.now.slots) slot c.index-2.result.now (omega (arith, r.1)) c.index-2.ensures) in
+    let f = r.2 (key_mark key) c.len.result (omega arith) is in
+    found key f.0 _ (First c.args.self.now c.args.key) f.2

@@ -6,6 +6,7 @@ use Rattle.index.specs.Nodes.{child_in, path_in, parent_in}
 use Rattle.index.specs.Sound.{SoundIn}
 use Rattle.index.specs.Sound.{heads_of}
 use Rattle.index.proofs.Freeing.{NodeFreed, node_freed}
+use Rattle.index.proofs.Nodes.{node_read}
 use Rattle.index.proofs.tree.Tree.free_node.Goals as goal
 
 pub returns : goal.returns
@@ -14,10 +15,13 @@ returns g c =
     let ns' = vec_items c.set_free.new.nodes in
     let hs = heads_of c.args.self.now in
     let x = c.args.node in
-    let o : c.parent-up.result ≡ parent_in ns x = c.parent-up.ensures in
-    let st : bit_and c.path.result 15 ≡ path_in ns x % 16 = and_mask c.path.result 4 ∙ ap (λ y. y % 16) c.path.ensures in
-    let gap : child_in ns' c.parent-up.result (path_in ns x % 16) ≡ 0
-    = c.set_free.ensures.children c.parent-up.result (path_in ns x % 16) ∙ (ap (child_in (vec_items c.clear_child.new.nodes) c.parent-up.result) (sym st) ∙ c.clear_child.ensures.here) in
+    let freed = c.index-freed.result.now in
+    let up = freed.parent in
+    let is = node_read ns x freed c.requires.within c.index-freed.ensures in
+    let o : up ≡ parent_in ns x = ap (λ n. n.parent) is in
+    let st : bit_and freed.path 15 ≡ path_in ns x % 16 = and_mask freed.path 4 ∙ ap (λ n. n.path % 16) is in
+    let gap : child_in ns' up (path_in ns x % 16) ≡ 0
+    = c.set_free.ensures.children up (path_in ns x % 16) ∙ (ap (child_in (vec_items c.clear_child.new.nodes) up) (sym st) ∙ c.clear_child.ensures.here) in
     let g : NodeFreed ns ns' x c.args.self.now.unused = record {
       len = c.set_free.ensures.len ∙ (c.clear_child.ensures.len ∙ c.set_path.ensures.len);
       path_x = c.set_free.ensures.paths x ∙ (c.clear_child.ensures.paths x ∙ c.set_path.ensures.here);

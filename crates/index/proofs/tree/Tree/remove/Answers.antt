@@ -7,6 +7,7 @@ use Rattle.index.specs.Slots.{heads, records}
 use Rattle.index.proofs.Steps.{up_big}
 use Rattle.index.proofs.Below.{end_none, end_found}
 use Rattle.index.proofs.Filings.{slots_len}
+use Rattle.index.proofs.Nodes.{next_read, no_child, some_child}
 use Rattle.index.proofs.Removing.{unused_room, removed}
 use Rattle.index.proofs.tree.Tree.remove.Goals as goal
 
@@ -34,12 +35,13 @@ free_node-node-requires g c =
     let room = unused_room c.args.self.now c.args.key (c.descend-end.result.item - c.len.result) c.requires (omega arith) f.0 held in
     let i = c.loop-height.invariant in
     let z = c.free_slot-node.ensures in
+    let search = next_read (vec_items c.loop-height.self.nodes) c.loop-height.node c.index.result.now i.3 c.index.ensures 0 c.next.result c.next.ensures in
     let big = up_big c.loop-height._height (2 ^ 32 + c.args.key) c.loop-height-test.true (omega arith) (omega arith) in
     record {
       sound = i.0;
       within = i.3;
       used = omega (arith, i.4);
-      empty = c.if-has_child.ensures;
+      empty = no_child _ c.next.result (sym c.is_some.ensures ∙ c.if-is_some.false) search;
       left = omega (arith, i.7, i.8, z.len, z.unused);
     }
 
@@ -61,8 +63,8 @@ loop-height-preserved g c =
       omega (arith, i.8, z.unused),
     )
 
-pub returns-then-has_child : goal.returns-then-has_child
-returns-then-has_child g c =
+pub returns-then-is_some : goal.returns-then-is_some
+returns-then-is_some g c =
     let v = c.args.self.now.nodes.ok.0 in
     let f = end_found c.requires.sound c.descend-end.ensures (omega arith) in
     let e : length (vec_items c.args.self.now.nodes) ≡ c.len.result = omega arith in
@@ -70,9 +72,10 @@ returns-then-has_child g c =
     = ap (λ x. mark_in (heads_of c.args.self.now) (c.descend-end.result.item - x)) (sym e) ∙ f.3 in
     let i = c.loop-height.invariant in
     let z = c.free_slot-node.ensures in
+    let search = next_read (vec_items c.loop-height.self.nodes) c.loop-height.node c.index.result.now i.3 c.index.ensures 0 c.next.result c.next.ensures in
     let r = removed c.args.self.now c.args.key (c.descend-end.result.item - c.len.result) c.requires (omega arith) f.0 held
     c.loop-height.self c.loop-height.node c.loop-height._height i.0 i.1 i.2 i.3 i.4 i.5
-    (ap (λ x. marks (heads (vec_items x))) i.6 ∙ z.marks) (ap (λ x. records (vec_items x)) i.6 ∙ z.records) (i.7 ∙ z.len) (omega (arith, i.8, z.unused)) (inr c.if-has_child.ensures) in
+    (ap (λ x. marks (heads (vec_items x))) i.6 ∙ z.marks) (ap (λ x. records (vec_items x)) i.6 ∙ z.records) (i.7 ∙ z.len) (omega (arith, i.8, z.unused)) (inr (some_child _ c.next.result (sym c.is_some.ensures ∙ c.if-is_some.true) search)) in
     record { whole = r.0; sizes = (r.1.nodes_are, slots_len (heads_of c.args.self.now) (heads_of c.loop-height.self) (c.descend-end.result.item - c.len.result) 0 r.1.marks_are); cases = r.1 }
 
 pub returns-after-loop-height : goal.returns-after-loop-height
