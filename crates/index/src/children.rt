@@ -2,8 +2,8 @@
 ghost use Rattle.std.specs.Prelude.{◌≡◌, ℕ, ◌<◌, ◌≤◌, MatchOption, ◌≢◌, slice_index, slice_set};
 ghost use Rattle.index.specs.Masks.{Agrees};
 
-// The children by step: 0 for none, a node's number, or the number of nodes and a slot's number. Only the height tells a node
-// from a slot: an enum would say that twice, and make a node twice as large.
+// The children by step: 0 for none, a node's number, or the number of nodes and a slot's number. No enum of the three: its
+// number and its case would make a node almost twice as large, and at each use the height says already which case it is.
 #[derive(Clone, Copy)]
 pub(crate) struct Children {
     items: [u32; 16],

@@ -12,7 +12,8 @@ use super::tree::Tree;
 // The path of the slot of key 0.
 const FILED: u64 = 0x1_0000_0000;
 
-// An item of the tree, `height` steps above a slot: a slot has height 0, the root has 8.
+// An item of the tree, `height` steps above a slot: a slot has height 0, the root has 8. No enum of slot and node: the height is
+// what the way up and down counts by, and a slot is no more than the item where it ends.
 #[derive(Clone, Copy)]
 pub(crate) struct End {
     pub item: u32,
