@@ -1,9 +1,11 @@
 use Rattle.std.proofs.Common.{◌^◌, ◌≤◌}
 use Rattle.std.proofs.Common.{◌≡◌, ℕ, suc, ◌+◌, ◌-◌, ◌<◌, length, vec_items, vec_len, sym, refl, ap, ◌∙◌, subst, arith}
-use Rattle.std.proofs.Common.{false, zero, Option, None, Some}
+use Rattle.std.proofs.Common.{false, zero, List, Option, None, Some}
 use Rattle.std.specs.Prelude.{◌==◌}
 use Rattle.std.proofs.lemmas.List.{length-map}
 use Rattle.std.specs.Option.{IsSome, MatchOption}
+use Rattle.index.specs.declared.node.Node.{Node}
+use Rattle.index.specs.declared.slot.Head.{Head}
 use Rattle.index.specs.Nexts.{Ahead, First}
 use Rattle.index.specs.Slots.{key_mark, mark_in, marks}
 use Rattle.index.specs.Sound.{heads_of}
@@ -14,9 +16,13 @@ use Rattle.index.proofs.Nodes.{child_read, next_read}
 use Rattle.index.proofs.Scans.{ahead_node, ahead_child, ahead_down, first_end}
 use Rattle.index.proofs.tree.Tree.first_at_or_after.Goals as goal
 
-not_empty : (n : ℕ) → (n == 0) ≡ false → 0 < n
-not_empty zero e = absurd (cc)
-not_empty (suc n) e = omega arith
+some_nodes : (ns : List Node) (n : ℕ) → n ≡ length ns → (n == 0) ≡ false → 0 < length ns
+some_nodes ns zero len e = absurd (cc)
+some_nodes ns (suc n) len e = omega arith
+
+-- after i of the steps down, where that is not all, one is left
+step_left : {ns : List Node} {hs : List Head} {key item : ℕ} (end i : ℕ) → i < end → Ahead ns hs key item (end - i) → Ahead ns hs key item (suc (end - (i + 1)))
+step_left {ns} {hs} {key} {item} end i l = subst (Ahead ns hs key item) (let e : end - i ≡ suc (end - (i + 1)) = omega arith in e)
 
 some_where : (P : Type 0) (Q : ℕ → Type 0) (o : Option ℕ) → MatchOption o P Q → (P → ⊥) → IsSome o
 some_where P Q None p n = absurd (n p)
@@ -42,47 +48,41 @@ loop-i-init g c = subst (Ahead (vec_items c.args.self.now.nodes) (heads_of c.arg
 pub index-requires : goal.index-requires
 index-requires g c =
     let v = c.args.self.now.nodes.ok.0 in
-    let some : 0 < length (vec_items c.args.self.now.nodes) = omega (arith, not_empty (vec_len c.args.self.now.nodes) (sym c.if-is_empty.ensures)) in
-    let left = c.in_ok-top.top.height - (c.loop-i._i + 1) in
-    let e : c.in_ok-top.top.height - c.loop-i._i ≡ suc left = omega arith in
-    let a = subst (Ahead (vec_items c.args.self.now.nodes) (heads_of c.args.self.now) c.args.key c.loop-i.item) e c.loop-i.invariant in
-    omega (arith, (ahead_node c.requires some c.args.key c.loop-i.item left a).0)
+    let some = some_nodes (vec_items c.args.self.now.nodes) (vec_len c.args.self.now.nodes) v (sym c.if-is_empty.ensures) in
+    let a = step_left c.in_ok-top.top.height c.loop-i._i (omega arith) c.loop-i.invariant in
+    omega (arith, (ahead_node c.requires some _ _ _ a).0)
 
 pub unwrap-first-requires : goal.unwrap-first-requires
 unwrap-first-requires g c =
     let v = c.args.self.now.nodes.ok.0 in
-    let some : 0 < length (vec_items c.args.self.now.nodes) = omega (arith, not_empty (vec_len c.args.self.now.nodes) (sym c.if-is_empty.ensures)) in
-    let left = c.in_ok-top.top.height - (c.loop-i._i + 1) in
-    let e : c.in_ok-top.top.height - c.loop-i._i ≡ suc left = omega arith in
-    let a = subst (Ahead (vec_items c.args.self.now.nodes) (heads_of c.args.self.now) c.args.key c.loop-i.item) e c.loop-i.invariant in
-    let n = ahead_node c.requires some c.args.key c.loop-i.item left a in
+    let some = some_nodes (vec_items c.args.self.now.nodes) (vec_len c.args.self.now.nodes) v (sym c.if-is_empty.ensures) in
+    let a = step_left c.in_ok-top.top.height c.loop-i._i (omega arith) c.loop-i.invariant in
+    let n = ahead_node c.requires some _ _ _ a in
     let z = next_read (vec_items c.args.self.now.nodes) c.loop-i.item c.index.result.now n.0 c.index.ensures 0 c.next.result c.next.ensures in
-    some_where _ _ c.next.result z (ahead_child c.requires some c.args.key c.loop-i.item left a)
+    some_where _ _ c.next.result z (ahead_child c.requires some _ _ _ a)
 
 pub loop-i-preserved : goal.loop-i-preserved
 loop-i-preserved g c =
     let v = c.args.self.now.nodes.ok.0 in
-    let some : 0 < length (vec_items c.args.self.now.nodes) = omega (arith, not_empty (vec_len c.args.self.now.nodes) (sym c.if-is_empty.ensures)) in
-    let left = c.in_ok-top.top.height - (c.loop-i._i + 1) in
-    let e : c.in_ok-top.top.height - c.loop-i._i ≡ suc left = omega arith in
-    let a = subst (Ahead (vec_items c.args.self.now.nodes) (heads_of c.args.self.now) c.args.key c.loop-i.item) e c.loop-i.invariant in
-    let n = ahead_node c.requires some c.args.key c.loop-i.item left a in
+    let some = some_nodes (vec_items c.args.self.now.nodes) (vec_len c.args.self.now.nodes) v (sym c.if-is_empty.ensures) in
+    let a = step_left c.in_ok-top.top.height c.loop-i._i (omega arith) c.loop-i.invariant in
+    let n = ahead_node c.requires some _ _ _ a in
     let node = c.index.result.now in
     let z = next_read (vec_items c.args.self.now.nodes) c.loop-i.item node n.0 c.index.ensures 0 (Some c.unwrap-first.result) (rw c.unwrap-first.ensures at c.next.ensures) in
-    subst (λ y. Ahead (vec_items c.args.self.now.nodes) (heads_of c.args.self.now) c.args.key y left) (sym (c.child-item.ensures ∙ child_read (vec_items c.args.self.now.nodes) c.loop-i.item node n.0 c.index.ensures c.unwrap-first.result))
-    (ahead_down c.requires some c.args.key c.loop-i.item left c.unwrap-first.result a z.1 z.2 z.3)
+    subst (λ y. Ahead (vec_items c.args.self.now.nodes) (heads_of c.args.self.now) c.args.key y (c.in_ok-top.top.height - (c.loop-i._i + 1))) (sym (c.child-item.ensures ∙ child_read (vec_items c.args.self.now.nodes) c.loop-i.item node n.0 c.index.ensures c.unwrap-first.result))
+    (ahead_down c.requires some _ _ _ c.unwrap-first.result a z.1 z.2 z.3)
 
 pub overflow_sub-slot : goal.overflow_sub-slot
 overflow_sub-slot g c =
     let v = c.args.self.now.nodes.ok.0 in
-    let some : 0 < length (vec_items c.args.self.now.nodes) = omega (arith, not_empty (vec_len c.args.self.now.nodes) (sym c.if-is_empty.ensures)) in
+    let some = some_nodes (vec_items c.args.self.now.nodes) (vec_len c.args.self.now.nodes) v (sym c.if-is_empty.ensures) in
     let r = first_end c.args.self.now c.args.key c.loop-i.item (c.in_ok-top.top.height - c.loop-i._i) c.requires some c.loop-i.invariant (omega arith) in
     omega (arith, r.0)
 
 pub index-requires-2 : goal.index-requires-2
 index-requires-2 g c =
     let v = c.args.self.now.nodes.ok.0 in
-    let some : 0 < length (vec_items c.args.self.now.nodes) = omega (arith, not_empty (vec_len c.args.self.now.nodes) (sym c.if-is_empty.ensures)) in
+    let some = some_nodes (vec_items c.args.self.now.nodes) (vec_len c.args.self.now.nodes) v (sym c.if-is_empty.ensures) in
     let r = first_end c.args.self.now c.args.key c.loop-i.item (c.in_ok-top.top.height - c.loop-i._i) c.requires some c.loop-i.invariant (omega arith) in
     let w = c.args.self.now.slots.ok.0 in
     omega (arith, r.1, length-map (vec_items c.args.self.now.slots) (λ s. s.head))
@@ -90,7 +90,7 @@ index-requires-2 g c =
 pub returns : goal.returns
 returns g c =
     let v = c.args.self.now.nodes.ok.0 in
-    let some : 0 < length (vec_items c.args.self.now.nodes) = omega (arith, not_empty (vec_len c.args.self.now.nodes) (sym c.if-is_empty.ensures)) in
+    let some = some_nodes (vec_items c.args.self.now.nodes) (vec_len c.args.self.now.nodes) v (sym c.if-is_empty.ensures) in
     let r = first_end c.args.self.now c.args.key c.loop-i.item (c.in_ok-top.top.height - c.loop-i._i) c.requires some c.loop-i.invariant (omega arith) in
     let key = c.index-2.result.now.head.key in
     let slot = c.loop-i.item - c.len.result in
