@@ -19,7 +19,7 @@ impl Held {
         }
         let key = self.first_from(Key::from(from as u32))?;
         let number = u64::from(u32::from(key));
-        (number < end).then_some(number)
+        if number < end { Some(number) } else { None }
     }
 
     /// How many held keys are of the pool, found from key to key in the index.
