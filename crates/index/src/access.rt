@@ -36,6 +36,7 @@ impl<R: Copy> Tree<R> {
         set_record(&mut self.slots, slot, value);
     }
 
+    // How many nodes and slots there are and how many are free, by four names, since a number to choose them by would say less.
     pub(crate) fn node_count(&self) -> usize
         ensures { result ≡ nodes_of self.now }
     {

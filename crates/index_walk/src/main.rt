@@ -153,6 +153,7 @@ impl Walk {
 
     // Removes every key, in their order, and counts the records and nodes that are still in use.
     fn remove_all(&mut self) {
+        // as many turns as there can be keys, so that it ends without a measure
         for _ in 0..SLOTS {
             if let Some(key) = self.index.first_at_or_after(0) {
                 let _ = self.index.remove(key);

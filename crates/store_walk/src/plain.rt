@@ -92,6 +92,7 @@ impl Plain {
 
     // Evicts while a place is lacking and an ephemeral page is held.
     fn make_room(&mut self, byte: u8) {
+        // as many turns as there can be evictions, so that it ends without a measure
         for _ in 0..self.held.len() {
             if !self.lacks(byte) {
                 return;
