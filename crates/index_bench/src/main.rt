@@ -39,10 +39,17 @@ fn key(i: u32) -> u32 {
 }
 
 // For how many of the keys the call answers true.
-fn hits<F: FnMut(u32) -> bool>(keys: u32, mut call: F) -> usize
+// By a `for`, and not by `filter` and `count`: there it stays open that the call may be made each time.
+fn hits<F: FnMut(u32) -> bool>(keys: u32, mut call: F) -> u32
     requires { F.IsAlwaysCallable call }
 {
-    (0..keys).filter(|i| call(key(*i))).count()
+    let mut hits = 0u32;
+    for i in 0..keys {
+        if call(key(i)) {
+            hits = hits.saturating_add(1);
+        }
+    }
+    hits
 }
 
 // An index over the memory of this one, in which every key is filed.
@@ -55,7 +62,7 @@ fn filled(index: Index<u64>, keys: u32) -> Index<u64> {
 }
 
 // One round, and how many of its calls found something.
-fn round(index: Index<u64>, phase: Phase, keys: u32) -> (Index<u64>, usize) {
+fn round(index: Index<u64>, phase: Phase, keys: u32) -> (Index<u64>, u32) {
     // a match, since a phase is one of five words of the command line
     match phase {
         Phase::Make => (Index::new(index.into_memory()), 0),
@@ -93,7 +100,7 @@ fn run(rt: &HostRuntime) -> anyhow::Result<()> {
     let slots = keys as usize;
     let memory = IndexMemory::new(rt.alloc(), slots * 7 + 1, slots, 0u64)?;
     let mut index = filled(Index::new(memory), keys);
-    let mut hits = 0usize;
+    let mut hits = 0u32;
     for _ in 0..rounds {
         let (next, found) = round(index, phase, keys);
         index = next;
