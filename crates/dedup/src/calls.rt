@@ -88,6 +88,7 @@ impl HeldPages for SharedPages {
         self.contents.in_use() >= self.contents.size() && self.contents.find(page).is_none()
     }
 
+    // A slice that is no page is asked for here and in `take`, which answer for any slice, and not only for a store's.
     fn append(&mut self, key: Key, page: &[u8]) -> bool {
         if page.len() != PAGE_BYTES {
             return false;

@@ -10,7 +10,7 @@ use index::Index;
 pub struct Held {
     // how many keys at most; the table has two records more, and `table.len() - 2` at each use would be no plainer
     pub(crate) size: usize,
-    // as many as the index has records; the walk along the table is bounded by it, so it stands beside the table
+    // as many as the index has records; a field, so that what holds of the table is said of the table alone
     pub(crate) count: usize,
     // the records of the places, then the ends of the rings of held and of free places
     pub(crate) table: Vec<Record>,

@@ -13,6 +13,7 @@ fn fullest_even(sizes: &[u16; 16]) -> u8
     ensures { result ≡ fullest_of (λ p. slice_index sizes.now p) 7 }
 {
     let mut best = 0;
+    // a `for` with the best so far: of several pools the lowest is wanted, and `max_by_key` gives the last
     for half in 0..7u8 {
         let pool = 2 * half + 2;
         if sizes[usize::from(best)] < sizes[usize::from(pool)] {

@@ -160,3 +160,8 @@ module _ {ns : List Node} {hs : List Head} {unused vacant : ℕ} {key item heigh
       (cases_lt item (length ns)))
       (λ (a : length ns ≤ 0). absurd (omega (arith, w.empty (omega arith))))
       (cases_lt 0 (length ns))
+
+-- where a key is filed, there is a node
+pub filed_some : {ns : List Node} {hs : List Head} {u v x : ℕ} → SoundIn ns hs u v x → (p key : ℕ) → mark_in hs p ≡ 2 ^ 32 + key → 0 < length ns
+filed_some {ns = ns} s p key held =
+    ⊎_elim (λ (a : 0 < length ns). a) (λ (b : length ns ≤ 0). absurd (omega (arith, s.empty (omega arith) p, held))) (cases_lt 0 (length ns))

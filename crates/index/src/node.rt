@@ -1,5 +1,6 @@
 //! A node of the tree, and what a write to one in a `Vec` leaves. The writes are functions of the whole `Vec` and not methods of
 //! a node, since each says what stays the same in all nodes: a method says nothing of the others, and each caller would show it.
+//! That a number is one of a node stands in each contract: it is a fact of the number, which no struct round the `Vec` could keep.
 ghost use Rattle.std.specs.Prelude.{◌≡◌, ℕ, ◌+◌, ◌-◌, ◌*◌, ◌/◌, ◌%◌, ◌^◌, ◌<◌, ◌≤◌, length, set, vec_len, ◌≢◌};
 ghost use Rattle.index.specs.Nodes.{path_in, parent_in, child_in, free_in};
 

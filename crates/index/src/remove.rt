@@ -66,11 +66,7 @@ impl<R: Copy> Tree<R> {
         ensures sizes { (nodes_of self.new ≡ nodes_of self.old) × (slots_of self.new ≡ slots_of self.old) }
         ensures cases { MatchOption result ((shares 0 key (keys_of self.old) ≡ false) × (self.new ≡ self.old)) (λ p. Removed self.old self.new key p) }
     {
-        let end = self.descend(key);
-        if end.height > 0 {
-            return None;
-        }
-        let slot = end.item - self.nodes.len() as u32;
+        let slot = self.find(key)?;
         let mut node = self.free_slot(slot, key);
         for _height in 1..8u32 {
             if self.nodes[node as usize].children.next(0).is_some() {

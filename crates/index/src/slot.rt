@@ -1,5 +1,5 @@
 //! A record slot: a record with what the tree keeps beside it, and what a write to one in a `Vec` leaves. As in `node.rt`
-//! the writes are functions of the whole `Vec`, since each says what stays the same in all slots.
+//! the writes are functions of the whole `Vec`, since each says what stays the same in all slots, and the bounds stand in each.
 ghost use Rattle.std.specs.Prelude.{◌≡◌, ℕ, ◌+◌, ◌-◌, ◌*◌, ◌/◌, ◌%◌, ◌^◌, ◌<◌, ◌≤◌, length, vec_len, ◌≢◌, slice_set};
 ghost use Rattle.index.specs.Slots.{heads, records, key_mark, mark_in, slot_parent_in, slot_free_in};
 

@@ -52,6 +52,7 @@ impl HeldPages for LocalPages {
         self.held.count() >= self.held.size()
     }
 
+    // A slice that is no page is asked for here and in `take`, which answer for any slice, and not only for a store's.
     fn append(&mut self, key: Key, page: &[u8]) -> bool {
         if page.len() != PAGE_BYTES {
             return false;

@@ -66,6 +66,7 @@ fn drop_block<H: HeldPages>(pages: &mut H, key: Key, size: u32)
 {
     let block = u32::from(key) / size;
     let first = Key::from(block * size);
+    // no iterator: each turn changes the pages that it would borrow
     while let Some(next) = pages.first_from(first) {
         if u32::from(next) / size != block {
             return;

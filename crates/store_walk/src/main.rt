@@ -34,6 +34,7 @@ struct Walk<B> {
     counts: Counts,
 }
 
+// `index_walk` has these lines too; a crate for them would be longer than both.
 fn add_one(count: &mut u32) {
     *count = count.saturating_add(1);
 }
