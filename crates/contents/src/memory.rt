@@ -1,5 +1,5 @@
 //! The memory of contents.
-ghost use Rattle.std.specs.Prelude.{◌≡◌, length, replicate, IfOk};
+ghost use Rattle.std.specs.Prelude.{◌≡◌, replicate, IfOk};
 
 use super::records::ContentRecord;
 use std::alloc::{AllocError, Global};
@@ -15,7 +15,7 @@ impl ContentsMemory {
     /// Memory of so many bytes, all of them zero, and so many blank records.
     pub fn new(heap: Global, bytes: usize, records: usize) -> Result<ContentsMemory, AllocError>
         ensures bytes { IfOk result (λ m. m.bytes.items ≡ replicate bytes 0) }
-        ensures records { IfOk result (λ m. length m.records.items ≡ records) }
+        ensures records { IfOk result (λ m. m.records.items ≡ replicate records (record { users = 0; fingerprint = 0 })) }
     {
         Ok(ContentsMemory {
             bytes: vec![in heap; 0; bytes]?,
