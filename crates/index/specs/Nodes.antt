@@ -1,5 +1,5 @@
 -- What a node of a list holds. Past the list's end all is 0.
-use Rattle.std.specs.Prelude.{ℕ, List, [], slice_index, slice_index_or, refl}
+use Rattle.std.specs.Prelude.{◌≡◌, ℕ, List, [], slice_index, slice_index_or, refl}
 use Rattle.index.specs.declared.node.Node.{Node}
 use Rattle.index.specs.Masks.{bit_zero}
 
@@ -17,3 +17,10 @@ free_in ns i = (slice_index_or ns i none).free
 
 abbrev pub child_in : List Node → ℕ → ℕ → ℕ
 child_in ns i c = slice_index (slice_index_or ns i none).children.items c
+
+-- the nodes have no children, no path, no parent and no entry of a stack
+pub record Blank (ns : List Node) : Type 0 where
+  pub children : (j c : ℕ) → child_in ns j c ≡ 0
+  pub paths : (j : ℕ) → path_in ns j ≡ 0
+  pub parents : (j : ℕ) → parent_in ns j ≡ 0
+  pub frees : (j : ℕ) → free_in ns j ≡ 0

@@ -6,6 +6,10 @@ use Rattle.index.specs.declared.slot.Slot.{Slot}
 abbrev pub no_head : Head
 no_head = record { key = None; parent = 0; free = 0 }
 
+-- a slot with the record, in which no key is filed
+abbrev pub blank_slot : {R : Type 0} → R → Slot R
+blank_slot value = record { head = no_head; value = value }
+
 -- what the tree keeps beside the records
 abbrev pub heads : {R : Type 0} → List (Slot R) → List Head
 heads ss = map (λ s. s.head) ss

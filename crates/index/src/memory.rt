@@ -1,6 +1,7 @@
 //! The memory of an index.
 ghost use Rattle.std.specs.Prelude.{◌≡◌, length, replicate, IfOk};
-ghost use Rattle.index.specs.Slots.{records};
+ghost use Rattle.index.specs.Nodes.{Blank};
+ghost use Rattle.index.specs.Slots.{blank_slot};
 
 use crate::node::Node;
 use crate::slot::Slot;
@@ -22,8 +23,8 @@ impl<R: Copy> IndexMemory<R> {
         blank: R,
     ) -> Result<IndexMemory<R>, AllocError>
         ensures nodes { IfOk result (λ m. length m.nodes.items ≡ nodes) }
-        ensures slots { IfOk result (λ m. length m.slots.items ≡ slots) }
-        ensures records { IfOk result (λ m. records m.slots.items ≡ replicate slots blank) }
+        ensures blank { IfOk result (λ m. Blank m.nodes.items) }
+        ensures slots { IfOk result (λ m. m.slots.items ≡ replicate slots (blank_slot blank)) }
     {
         // pushed one by one: `vec!` clones, and a clone of an `R` need not be equal to it
         let mut blank_slots = Vec::with_capacity(heap, slots)?;

@@ -1,7 +1,7 @@
 //! A record slot: a record with what the tree keeps beside it, and what a write to one in a `Vec` leaves. As in `node.rt`
 //! the writes are functions of the whole `Vec`, since each says what stays the same in all slots, and the bounds stand in each.
 ghost use Rattle.std.specs.Prelude.{◌≡◌, ℕ, ◌+◌, ◌-◌, ◌*◌, ◌/◌, ◌%◌, ◌^◌, ◌<◌, ◌≤◌, length, vec_len, ◌≢◌, slice_set};
-ghost use Rattle.index.specs.Slots.{heads, records, key_mark, mark_in, slot_parent_in, slot_free_in};
+ghost use Rattle.index.specs.Slots.{blank_slot, heads, records, key_mark, mark_in, slot_parent_in, slot_free_in};
 
 // What the tree keeps beside a record.
 #[derive(Clone, Copy)]
@@ -24,7 +24,7 @@ pub struct Slot<R> {
 impl<R: Copy> Slot<R> {
     /// What memory for an index is filled with: `vec![in heap; Slot::new(blank); n]`.
     pub fn new(blank: R) -> Slot<R>
-        ensures { result.value ≡ blank }
+        ensures { result ≡ blank_slot blank }
     {
         Slot {
             head: Head {
