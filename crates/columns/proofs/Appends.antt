@@ -2,7 +2,7 @@
 use Rattle.std.proofs.Common.{◌≡◌, ℕ, ◌+◌, ◌-◌, ◌<◌, ◌≤◌, List, [], ◌∷◌, ◌++◌, length, get_or, take, drop, set, replicate, sym, ap, ◌∙◌, arith}
 use borrow.Rule.Slice.PartMut.{put_mid}
 use Rattle.std.specs.List.{flat_map}
-use Rattle.std.proofs.lemmas.List.{append-nil, append_assoc, length-append, length-drop, length-replicate, length-take, take_at, drop_at, drop_all, drop-drop, drop_more, flat_map_more, set_at, take_all, take_more, take-replicate}
+use Rattle.std.proofs.lemmas.List.{append-nil, append_assoc, length-append, length-drop, length-replicate, length-take, take_at, drop_at, drop_all, drop-drop, drop_more, flat_map_more, set_at, take_all, take_more, take-append-drop, take-replicate}
 use Rattle.columns.specs.Columns.{right}
 
 -- a text over the end of a field of spaces
@@ -14,6 +14,17 @@ over_blanks w field text e fits =
     let rest : length (drop {A = ℕ} a (replicate w 32)) ≤ w - a = simp (length-drop, length-replicate) (omega arith) in
     ap (λ f. put_mid a (w - a) f text) e ∙ ap (λ l. l ++ (text ++ drop (w - a) (drop a (replicate w 32)))) (take-replicate a w 32 (omega arith))
     ∙ ap (λ l. replicate a 32 ++ (text ++ l)) (drop_all (w - a) (drop a (replicate w 32)) rest) ∙ ap (λ l. replicate a 32 ++ l) (append-nil text)
+
+-- a text up to the end of a field of spaces
+pub up_to_end : (w start : ℕ) (blank text now : List ℕ) → blank ≡ replicate w 32 → start + length text ≡ w
+    → take start now ≡ take start blank → drop start now ≡ text ++ drop w blank → now ≡ right w text
+unfolding right
+up_to_end w start blank text now e fits before written =
+    let width : start ≡ w - length text = omega arith in
+    let none : length blank ≤ w = omega (arith, ap length e ∙ length-replicate w 32) in
+    sym (take-append-drop start now) ∙ ap (λ l. l ++ drop start now) (before ∙ ap (λ l. take start l) e ∙ take-replicate start w 32 (omega arith))
+    ∙ ap (λ l. replicate start 32 ++ l) (written ∙ ap (λ l. text ++ l) (drop_all w blank none) ∙ append-nil text)
+    ∙ ap (λ n. replicate {A = ℕ} n 32 ++ text) width
 
 -- a text after what stands at the start of the buffer already
 pub appended : (done text buffer : List ℕ) (a k : ℕ) → length done ≡ a

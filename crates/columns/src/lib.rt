@@ -47,8 +47,9 @@ fn put_number(field: &mut [u8], number: u32)
     requires { length (decimal number) ≤ length field.old }
     ensures { field.new ≡ right (length field.old) (decimal number) }
 {
-    let mut digits = itoa::Buffer::new();
-    put_right(field, digits.format(number).as_bytes());
+    let end = field.len();
+    field.fill(b' ');
+    itoa::write_digits(u64::from(number), field, end);
 }
 
 // Writes the count over the whole field, with spaces in front.

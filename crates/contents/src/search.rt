@@ -14,8 +14,9 @@ impl Contents {
         let Some(record) = self.records.get(content) else {
             return false;
         };
-        record.users != 0
-            && record.fingerprint == page.fingerprint
+        // the fingerprint first: in a search it differs at nearly every record, used or not
+        record.fingerprint == page.fingerprint
+            && record.users != 0
             && self
                 .memory
                 .page(content)

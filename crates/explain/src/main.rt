@@ -111,18 +111,17 @@ impl Report {
 
 fn explain(heap: Global, bytes: &[u8]) -> Result<Vec<u8>, AllocError> {
     let mut report = Report::new(heap);
-    match Script::open(bytes) {
-        Ok(script) => {
-            report.add_words(1, Words(script.level()))?;
-            for line in script {
-                report.explain_line(line)?;
-            }
-        }
+    let script = Script::open(bytes);
+    match script.level() {
+        Ok(level) => report.add_words(1, Words(level))?,
         Err(refusal) => report.add_line(OutputLine {
             line: 1,
             answer: refusal.number(),
             values: Values::Nothing,
         })?,
+    }
+    for line in script {
+        report.explain_line(line)?;
     }
     Ok(report.text)
 }
@@ -130,10 +129,14 @@ fn explain(heap: Global, bytes: &[u8]) -> Result<Vec<u8>, AllocError> {
 // One byte more than a script may have is enough to refuse it.
 fn read_script(rt: &HostRuntime) -> anyhow::Result<Vec<u8>> {
     let mut bytes = Vec::new(rt.alloc());
-    rt.stdin()
+    let read = rt
+        .stdin()
         .take(SCRIPT_BYTES as u64 + 1)
-        .read_to_end(&mut bytes)
-        .map_err(|error| anyhow!("the script cannot be read: {error}"))?;
+        .read_to_end(&mut bytes);
+    if let Err(error) = read {
+        // the text is on the heap, so that want of memory for it is told as such
+        return Err(anyhow!(format!(in rt.alloc(); "the script cannot be read: {error}")?));
+    }
     Ok(bytes)
 }
 

@@ -26,13 +26,15 @@ impl<R: Copy> IndexMemory<R> {
         ensures blank { IfOk result (λ m. Blank m.nodes.items) }
         ensures slots { IfOk result (λ m. m.slots.items ≡ replicate slots (blank_slot blank)) }
     {
+        // the nodes first: they take most of the memory, and where they cannot be had no slot is filled
+        let blank_nodes = vec![in heap; Node::BLANK; nodes]?;
         // pushed one by one: `vec!` clones, and a clone of an `R` need not be equal to it
         let mut blank_slots = Vec::with_capacity(heap, slots)?;
         for _i in 0..slots {
             blank_slots.push(Slot::new(blank))?;
         }
         Ok(IndexMemory {
-            nodes: vec![in heap; Node::BLANK; nodes]?,
+            nodes: blank_nodes,
             slots: blank_slots,
         })
     }

@@ -45,13 +45,16 @@ impl<R: Copy> Tree<R> {
             return None;
         }
         let top = self.next_branch(key, end)?;
+        // There is a next key, by the way down over the first children. Each is there, as the slot's key is: `unwrap_or` has nothing
+        // to ask at run time, so a caller that does not look at the key need not go down.
         let mut item = top.item;
         for _i in 0..top.height {
             let children = &self.nodes[item as usize].children;
-            let first = children.next(0).unwrap();
+            let first = children.next(0).unwrap_or(0);
             item = children.child(first);
         }
         let slot = item - self.nodes.len() as u32;
-        self.slots[slot as usize].head.key
+        let next = self.slots[slot as usize].head.key.unwrap_or(key);
+        Some(next)
     }
 }

@@ -1,5 +1,5 @@
 //! Scripts, read line by line.
-ghost use Rattle.std.specs.Prelude.{◌≡◌, ◌+◌, ◌≤◌, length, take, drop, IfOk, MatchResult, Ok, Err};
+ghost use Rattle.std.specs.Prelude.{◌≡◌, ◌+◌, ◌≤◌, [], length, take, drop, is_ok, if◌then◌else◌, Err};
 ghost use Rattle.std.specs.Iterator.{item_count};
 ghost use Rattle.tokens.specs.Cuts.{before};
 ghost use Rattle.script.specs.Lines.{lines_of, script_level, LinesLaw};
@@ -22,31 +22,47 @@ fn cut(bytes: &[u8]) -> (&[u8], &[u8])
     (&bytes[..end], &bytes[next..])
 }
 
+// A refused script, which has no lines.
+fn refused(bytes: &[u8], refusal: ScriptRefusal) -> Script<'_>
+    ensures level { result.level ≡ Err refusal }
+    ensures rest { result.rest.now ≡ [] }
+    ensures place { result.place ≡ 0 }
+    ensures lines { result.lines ≡ 0 }
+{
+    Script {
+        level: Err(refusal),
+        rest: &bytes[..0],
+        place: 0,
+        lines: 0,
+    }
+}
+
 impl<'a> Script<'a> {
     /// Opens a script: reads its level off its first line.
-    #[tactic(auto, using(crate::proofs::Rows::lines_law))]
-    pub fn open(bytes: &'a [u8]) -> Result<Script<'a>, ScriptRefusal>
-        ensures level { MatchResult result (λ script. Ok script.level ≡ script_level bytes.now) (λ refusal. Err refusal ≡ script_level bytes.now) }
-        ensures rest { IfOk result (λ script. lines_of script.rest.now ≡ later_rows (lines_of bytes.now)) }
-        ensures end { IfOk result (λ script. script.place + length script.rest.now ≡ length bytes.now) }
-        ensures lines { IfOk result (λ script. script.lines ≡ 1) }
+    pub fn open(bytes: &'a [u8]) -> Script<'a>
+        ensures level { result.level ≡ script_level bytes.now }
+        ensures rest { lines_of result.rest.now ≡ (if is_ok result.level then later_rows (lines_of bytes.now) else []) }
+        ensures end { result.place + length result.rest.now ≡ (if is_ok result.level then length bytes.now else 0) }
+        ensures lines { result.lines ≡ (if is_ok result.level then 1 else 0) }
         ensures law { LinesLaw bytes.now (lines_of bytes.now) }
     {
         if bytes.len() > SCRIPT_BYTES {
-            return Err(ScriptRefusal::TooLong);
+            return refused(bytes, ScriptRefusal::TooLong);
         }
         let (first, rest) = cut(bytes);
-        let level = Level::try_from(first)?;
-        Ok(Script {
-            level,
-            rest,
-            place: bytes.len() - rest.len(),
-            lines: 1,
-        })
+        match Level::try_from(first) {
+            Ok(level) => Script {
+                level: Ok(level),
+                rest,
+                place: bytes.len() - rest.len(),
+                lines: 1,
+            },
+            Err(refusal) => refused(bytes, refusal),
+        }
     }
 
-    /// The level that the first line sets.
-    pub fn level(&self) -> Level
+    /// The level that the first line sets, or why the script is refused.
+    pub fn level(&self) -> Result<Level, ScriptRefusal>
         ensures { result ≡ self.now.level }
     {
         self.level

@@ -1,12 +1,13 @@
 //! A script and its lines.
 ghost use Rattle.std.specs.Prelude.{◌+◌, ◌<◌, ◌≤◌, length};
 
-use crate::levels::Level;
+use crate::levels::{Level, ScriptRefusal};
 
-/// A script that has been opened: its level, and the lines after its first, one after another.
+/// A script that has been opened: its level, and the lines after its first, one after another; a refused script has none.
 #[derive(Drop)]
 pub struct Script<'a> {
-    pub(crate) level: Level,
+    // No enum of an opened and a refused script: opening answers a script for every input, and what is refused is its level.
+    pub(crate) level: Result<Level, ScriptRefusal>,
     // What follows the lines that were handed out, and where it begins.
     pub(crate) rest: &'a [u8],
     pub(crate) place: usize,

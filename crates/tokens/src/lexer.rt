@@ -49,6 +49,8 @@ impl<'a> Iterator for Tokens<'a> {
     ghost remaining = { λ tokens. at_most (most_tokens (left tokens.rest)) };
 
     /// The next token, or none where the line has no more.
+    // inlined, so that where it is known whether a letter or a field comes next the other is left out
+    #[inline]
     fn next(&mut self) -> Option<Token<'a>> {
         let (token, rest) = match self.rest {
             Rest::Line(line) => letter(line, self.place),

@@ -29,5 +29,5 @@ all_blank n x path parent free children = record {
 
 pub returns-clause-blank : goal.returns-clause-blank
 returns-clause-blank g c =
-    let made = c.in_ok-vec.ensures.items_if_clones_equal (λ y h. h) in
+    let made = c.in_ok-blank_nodes.ensures.items_if_clones_equal (λ y h. h) in
     subst (λ ns. Blank ns) (sym made) (all_blank _ _ refl refl refl refl)
